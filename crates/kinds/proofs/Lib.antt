@@ -1,0 +1,3 @@
+pub mod SameContracts
+pub mod ListedRules
+pub mod FlexibleRules
