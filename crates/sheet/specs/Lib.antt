@@ -1,0 +1,10 @@
+pub mod Decimals
+pub mod Cuts
+pub mod Forms
+pub mod Faults
+pub mod ReadLines
+pub mod LineTexts
+pub mod StoredKinds
+pub mod ListedLines
+pub mod FlexibleLines
+pub mod LineBytes

@@ -1,0 +1,5 @@
+// The caller's buffer is too short for what is to be written.
+#[derive(Clone, Copy, PartialEq, Eq, Debug)]
+pub struct TooShort {
+    pub needed: usize,
+}
