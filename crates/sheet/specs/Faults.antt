@@ -1,6 +1,8 @@
 -- Every fault of a sheet with its number, its line, its layer and what is returned beside it.
 use mathlib.Core.List.{List, [], _∷_}
 use Prim.Native.Nat.{ℕ}
+use Rattle.std.specs.declared.option.Option.{Option}
+use Rattle.std.specs.declared.option.Option.the-variants.{Some, None}
 use Rattle.kinds.specs.ContractRefusals.{contract-refusal-number}
 use Rattle.sheet.specs.declared.fault.Layer as layer
 use Rattle.sheet.specs.declared.fault.LineCause.{LineCause}
@@ -33,7 +35,23 @@ fault-line (fault.Field line field) = line
 fault-line (fault.Line line cause) = line
 fault-line (fault.Book line cause) = line
 
+abbrev pub fault-field-of : Fault → Option ℕ
+fault-field-of (fault.Field line field) = Some field
+fault-field-of (fault.Line line cause) = None
+fault-field-of (fault.Book line cause) = None
+
 abbrev pub fault-layer : Fault → layer.Layer
 fault-layer (fault.Field line field) = layer.the-variants.Field
 fault-layer (fault.Line line cause) = layer.the-variants.Line
 fault-layer (fault.Book line cause) = layer.the-variants.Book
+
+-- What is returned beside the number: the line, and then the field of a malformed line or the place of a market number.
+abbrev pub cause-values : LineCause → List ℕ
+cause-values (MarketNumber n) = n ∷ []
+cause-values (Contract r) = []
+cause-values Quantity = []
+
+abbrev pub fault-values : Fault → List ℕ
+fault-values (fault.Field line field) = line ∷ field ∷ []
+fault-values (fault.Line line cause) = line ∷ cause-values cause
+fault-values (fault.Book line cause) = line ∷ []

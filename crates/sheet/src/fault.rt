@@ -1,11 +1,11 @@
 // Why a sheet is turned away: the cause, the line and the layer in which it was found.
 ghost use mathlib.Core.Path.{_≡_};
-ghost use Rattle.sheet.specs.Faults.{fault-number, fault-line, fault-layer};
+ghost use Rattle.sheet.specs.Faults.{fault-number, fault-line, fault-layer, fault-field-of};
 use kinds::ContractRefusal;
 use kinds::ContractRefusalDebug;
 use kinds::ContractRefusalPartialEq;
 
-#[derive(Clone, Copy, PartialEq, Eq, Debug)]
+#[derive(Clone, Copy, PartialEq, Debug)]
 pub enum Layer {
     Field,
     Line,
@@ -13,7 +13,7 @@ pub enum Layer {
 }
 
 // What can be wrong with the numbers of a well-formed line by themselves.
-#[derive(Clone, Copy, PartialEq, Eq, Debug)]
+#[derive(Clone, Copy, PartialEq, Debug)]
 pub enum LineCause {
     // which of the market's five numbers is outside its range
     MarketNumber(u8),
@@ -22,7 +22,7 @@ pub enum LineCause {
 }
 
 // What can be wrong with a line in the book that the sheet tells.
-#[derive(Clone, Copy, PartialEq, Eq, Debug)]
+#[derive(Clone, Copy, PartialEq, Debug)]
 pub enum BookCause {
     // ceiling × size × rate is too large
     Product,
@@ -37,7 +37,7 @@ pub enum BookCause {
     TooLong,
 }
 
-#[derive(Clone, Copy, PartialEq, Eq, Debug)]
+#[derive(Clone, Copy, PartialEq, Debug)]
 pub enum Fault {
     // a malformed line, and the field at fault
     Field(usize, usize),
@@ -71,6 +71,16 @@ impl Fault {
             Fault::Field(line, _) => line,
             Fault::Line(line, _) => line,
             Fault::Book(line, _) => line,
+        }
+    }
+
+    // The field at fault in a malformed line, counted from 1.
+    pub fn field(self) -> Option<usize>
+        ensures { λ r. ⌜ r ≡ fault-field-of self ⌝ }
+    {
+        match self {
+            Fault::Field(_, field) => Some(field),
+            _ => None,
         }
     }
 

@@ -6,7 +6,7 @@ use crate::number::quantity;
 use crate::number::short_number;
 
 // The words of section heads.
-#[derive(Clone, Copy, PartialEq, Eq, Debug)]
+#[derive(Clone, Copy)]
 pub enum Word {
     Market,
     Positions,
@@ -36,7 +36,7 @@ impl Word {
     }
 }
 
-#[derive(Clone, Copy, PartialEq, Eq, Debug)]
+#[derive(Clone, Copy)]
 pub enum Form {
     Head(Word),
     // the number 5 of the market's head
