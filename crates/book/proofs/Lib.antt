@@ -1,0 +1,15 @@
+pub mod Integers
+pub mod StraightLosses
+pub mod BookLosses
+pub mod Rounding
+pub mod TradeEffects
+pub mod SearchSteps
+pub mod MarginAnswers
+pub mod ValueBounds
+pub mod CornerFormula
+pub mod MarketFacts
+pub mod TradedLists
+pub mod EndRefusals
+pub mod ScenarioRows
+pub mod FoundPlaces
+pub mod ScenarioCovers

@@ -1,0 +1,57 @@
+-- What is proved of every kind of contract that keeps the rules, as statements that a function's contract can name.
+-- In all of them v is the variation, u the ceiling, scale the exact units for one hundredth of a point of one contract,
+-- and ps the positions of a book.
+use mathlib.Core.Path.{_≡_}
+use mathlib.Core.Bool.{true}
+use mathlib.Core.List.{List, [], _∷_, map}
+use Prim.Native.Nat.{ℕ, _*_, _≤_}
+use lib.IntN.{ℤ, pos}
+use lib.Signed.{_≤ℤ_}
+use Rattle.std.specs.declared.option.Option.{Option}
+use Rattle.std.specs.Numbers.{maxZ}
+use Rattle.std.specs.shelf.Lists.{All, folded}
+use Rattle.book.specs.declared.position.Position.{Position}
+use Rattle.kinds.specs.Kinds.{Meaning}
+use Rattle.book.specs.Prices.{Ahead, Worst, Covers, Least, Margin, centavos}
+use Rattle.book.specs.Losses.{loss, corners, Fitting, sold}
+use Rattle.book.specs.Trades.{traded}
+
+-- What bounds the loss at price 0 and at the corners bounds it at every whole price.
+abbrev pub Corners-bound : {C : Type 0} → Meaning C → Type 0
+Corners-bound {C} K =
+    (v u scale : ℕ) (ps : List (Position C)) → Fitting K v u ps →
+    (most : ℤ) → All (λ c. loss K v scale ps c ≤ℤ most) (0 ∷ corners K v ps) → (x : ℕ) → loss K v scale ps x ≤ℤ most
+
+-- A price that stands ahead of price 0 and of the corners is the lowest of all whole prices at which the loss is greatest.
+abbrev pub Corners-suffice : {C : Type 0} → Meaning C → Type 0
+Corners-suffice {C} K =
+    (v u scale : ℕ) (ps : List (Position C)) → Fitting K v u ps →
+    (p : ℕ) → All (Ahead (loss K v scale ps) p) (0 ∷ corners K v ps) → Worst (loss K v scale ps) p
+
+-- There is one answer to the margin question.
+abbrev pub One-margin : Type 0
+One-margin = (f : ℕ → ℤ) (m n : ℕ) (a b : Option ℕ) → Margin f m a → Margin f n b → (m ≡ n) × (a ≡ b)
+
+-- No sale lowers the margin.
+abbrev pub Sales-raise : {C : Type 0} → Meaning C → Type 0
+Sales-raise {C} K =
+    (v scale : ℕ) (ps : List (Position C)) (c : C) (q : ℤ) → q ≤ℤ pos 0 →
+    (m n : ℕ) → Least (Covers (loss K v scale ps)) m → Least (Covers (loss K v scale (traded K c q ps))) n → m ≤ n
+
+-- No purchase raises it.
+abbrev pub Purchases-lower : {C : Type 0} → Meaning C → Type 0
+Purchases-lower {C} K =
+    (v scale : ℕ) (ps : List (Position C)) (c : C) (q : ℤ) → pos 0 ≤ℤ q →
+    (m n : ℕ) → Least (Covers (loss K v scale ps)) m → Least (Covers (loss K v scale (traded K c q ps))) n → n ≤ m
+
+-- It never passes the variation of every single contract held sold, summed and rounded up.
+abbrev pub Sold-bounds : {C : Type 0} → Meaning C → Type 0
+Sold-bounds {C} K =
+    (v u scale : ℕ) (ps : List (Position C)) → Fitting K v u ps →
+    (m : ℕ) → Least (Covers (loss K v scale ps)) m → m ≤ centavos (pos (sold ps * v * scale))
+
+-- The greatest of zero and the losses at price 0 and at the corners, rounded up, is that least number.
+abbrev pub Corner-formula : {C : Type 0} → Meaning C → Type 0
+Corner-formula {C} K =
+    (v u scale : ℕ) (ps : List (Position C)) → Fitting K v u ps →
+    Least (Covers (loss K v scale ps)) (centavos (folded maxZ (pos 0) (map (loss K v scale ps) (0 ∷ corners K v ps))))

@@ -1,0 +1,52 @@
+// What is proved of every kind that keeps the six rules: each function's contract is a theorem, and its reply means nothing.
+ghost use Rattle.book.specs.Theorems.{Corners-bound, Corners-suffice, Corner-formula, One-margin, Sales-raise, Purchases-lower, Sold-bounds};
+use kinds::Kind;
+
+// What bounds the loss at price 0 and at the corners bounds it at every whole price.
+pub(crate) fn corners_bound<K: Kind>() -> u8
+    ensures { λ _. ⌜ Corners-bound (K·Kind .means) ⌝ }
+{
+    0
+}
+
+// The price ahead of price 0 and of the corners is the lowest of all whole prices at which the loss is greatest.
+pub(crate) fn corners_suffice<K: Kind>() -> u8
+    ensures { λ _. ⌜ Corners-suffice (K·Kind .means) ⌝ }
+{
+    0
+}
+
+// The greatest of zero and of the losses at price 0 and at the corners, rounded up, is the least number that covers every price.
+pub(crate) fn corner_formula<K: Kind>() -> u8
+    ensures { λ _. ⌜ Corner-formula (K·Kind .means) ⌝ }
+{
+    0
+}
+
+// There is one answer to the margin question.
+pub(crate) fn one_margin() -> u8
+    ensures { λ _. ⌜ One-margin ⌝ }
+{
+    0
+}
+
+// No sale lowers the minimum margin.
+pub(crate) fn sales_raise<K: Kind>() -> u8
+    ensures { λ _. ⌜ Sales-raise (K·Kind .means) ⌝ }
+{
+    0
+}
+
+// No purchase raises it.
+pub(crate) fn purchases_lower<K: Kind>() -> u8
+    ensures { λ _. ⌜ Purchases-lower (K·Kind .means) ⌝ }
+{
+    0
+}
+
+// It never passes the unit minimum margins of all contracts held sold, summed and rounded up.
+pub(crate) fn sold_bounds<K: Kind>() -> u8
+    ensures { λ _. ⌜ Sold-bounds (K·Kind .means) ⌝ }
+{
+    0
+}

@@ -1,0 +1,21 @@
+// Books of options: market, positions, protected value, the worst price and the margins. Nothing is public yet.
+mod ask;
+mod book;
+mod change;
+mod contracts;
+mod find;
+mod found;
+mod laws;
+mod margin;
+mod market;
+mod market_rules;
+mod open;
+mod places;
+mod position;
+mod refusal;
+mod scenario;
+mod times;
+mod trade;
+mod unfit;
+mod value;
+mod worst;
