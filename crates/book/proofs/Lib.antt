@@ -13,3 +13,5 @@ pub mod EndRefusals
 pub mod ScenarioRows
 pub mod FoundPlaces
 pub mod ScenarioCovers
+pub mod ExampleMargins
+pub mod KeptTallies

@@ -6,3 +6,4 @@ pub mod Refusals
 pub mod Markets
 pub mod Tallies
 pub mod Scenarios
+pub mod Examples

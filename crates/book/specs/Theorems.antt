@@ -2,10 +2,10 @@
 -- In all of them v is the variation, u the ceiling, scale the exact units for one hundredth of a point of one contract,
 -- and ps the positions of a book.
 use mathlib.Core.Path.{_≡_}
-use mathlib.Core.Bool.{true}
+use mathlib.Core.Bool.{true, cond}
 use mathlib.Core.List.{List, [], _∷_, map}
 use Prim.Native.Nat.{ℕ, _*_, _≤_}
-use lib.IntN.{ℤ, pos}
+use lib.IntN.{ℤ, pos, _+ℤ_}
 use lib.Signed.{_≤ℤ_}
 use Rattle.std.specs.declared.option.Option.{Option}
 use Rattle.std.specs.Numbers.{maxZ}
@@ -14,7 +14,10 @@ use Rattle.book.specs.declared.position.Position.{Position}
 use Rattle.kinds.specs.Kinds.{Meaning}
 use Rattle.book.specs.Prices.{Ahead, Worst, Covers, Least, Margin, centavos}
 use Rattle.book.specs.Losses.{loss, corners, Fitting, sold}
-use Rattle.book.specs.Trades.{traded}
+use Rattle.book.specs.Trades.{traded, net-in}
+use Rattle.book.specs.Tallies.{Tally, Kept, holding, in-market, trade-refusal, change-refusal}
+use Rattle.book.specs.declared.market.Market.{Market}
+use Rattle.std.specs.declared.option.Option.the-variants.{None}
 
 -- What bounds the loss at price 0 and at the corners bounds it at every whole price.
 abbrev pub Corners-bound : {C : Type 0} → Meaning C → Type 0
@@ -55,3 +58,15 @@ abbrev pub Corner-formula : {C : Type 0} → Meaning C → Type 0
 Corner-formula {C} K =
     (v u scale : ℕ) (ps : List (Position C)) → Fitting K v u ps →
     Least (Covers (loss K v scale ps)) (centavos (folded maxZ (pos 0) (map (loss K v scale ps) (0 ∷ corners K v ps))))
+
+-- An accepted trade keeps what a tally keeps of its kind.
+abbrev pub Trades-keep : {C : Type 0} → Meaning C → Type 0
+Trades-keep {C} K = (t : Tally C) (c : C) (q : ℤ) → Kept K t → trade-refusal K t c q ≡ None → Kept K (holding t (traded K c q (t .positions)))
+
+-- And so does an accepted market change.
+abbrev pub Changes-keep : {C : Type 0} → Meaning C → Type 0
+Changes-keep {C} K = (t : Tally C) (m : Market) → Kept K t → change-refusal K t m ≡ None → Kept K (in-market t m)
+
+-- A trade adds its quantity to the net quantity in its contract, and to no other.
+abbrev pub Trades-add-up : {C : Type 0} → Meaning C → Type 0
+Trades-add-up {C} K = (ps : List (Position C)) (c d : C) (q : ℤ) → net-in K d (traded K c q ps) ≡ net-in K d ps +ℤ cond (K .same c d) q (pos 0)

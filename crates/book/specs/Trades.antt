@@ -21,3 +21,8 @@ traded K c q (p ∷ ps) = cond (K .same (p .contract) c) (put (p .contract) (p .
 -- A trade in the contract that is held at this index.
 abbrev pub traded-at : {C : Type 0} → List (Position C) → ℕ → Position C → ℤ → List (Position C)
 traded-at ps i p q = take i ps ++ put (p .contract) (p .net +ℤ q) (drop (suc i) ps)
+
+-- The net quantity in a contract.
+abbrev pub net-in : {C : Type 0} → Meaning C → C → List (Position C) → ℤ
+net-in K c [] = pos 0
+net-in K c (p ∷ ps) = cond (K .same (p .contract) c) (p .net) (pos 0) +ℤ net-in K c ps

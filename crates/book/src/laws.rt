@@ -1,5 +1,6 @@
 // What is proved of every kind that keeps the six rules: each function's contract is a theorem, and its reply means nothing.
-ghost use Rattle.book.specs.Theorems.{Corners-bound, Corners-suffice, Corner-formula, One-margin, Sales-raise, Purchases-lower, Sold-bounds};
+ghost use Rattle.book.specs.Theorems.{Corners-bound, Corners-suffice, Corner-formula, One-margin, Sales-raise, Purchases-lower, Sold-bounds, Trades-keep, Changes-keep, Trades-add-up};
+ghost use Rattle.book.specs.Examples.{Examples-hold};
 use kinds::Kind;
 
 // What bounds the loss at price 0 and at the corners bounds it at every whole price.
@@ -47,6 +48,34 @@ pub(crate) fn purchases_lower<K: Kind>() -> u8
 // It never passes the unit minimum margins of all contracts held sold, summed and rounded up.
 pub(crate) fn sold_bounds<K: Kind>() -> u8
     ensures { λ _. ⌜ Sold-bounds (K·Kind .means) ⌝ }
+{
+    0
+}
+
+// An accepted trade keeps every held contract fitting, and none held twice.
+pub(crate) fn trades_keep<K: Kind>() -> u8
+    ensures { λ _. ⌜ Trades-keep (K·Kind .means) ⌝ }
+{
+    0
+}
+
+// So does an accepted market change.
+pub(crate) fn changes_keep<K: Kind>() -> u8
+    ensures { λ _. ⌜ Changes-keep (K·Kind .means) ⌝ }
+{
+    0
+}
+
+// A trade adds its quantity to the net quantity in its contract, and to no other.
+pub(crate) fn trades_add_up<K: Kind>() -> u8
+    ensures { λ _. ⌜ Trades-add-up (K·Kind .means) ⌝ }
+{
+    0
+}
+
+// The worked examples.
+pub(crate) fn examples_hold() -> u8
+    ensures { λ _. ⌜ Examples-hold ⌝ }
 {
     0
 }

@@ -6,16 +6,9 @@ use native.Mathlib.Omega.{arith}
 use lib.ListN.{length}
 use Rattle.sheet.specs.declared.field.Field.{Field}
 use Rattle.sheet.specs.Cuts.{fields}
+use Rattle.sheet.specs.FirstFields.{Cut}
 use Rattle.sheet.specs.ReadLines.{Placed, In-row, Fields-told}
 use Rattle.sheet.proofs.Marks.{last-field}
-
--- What one cut tells: the first field of a line, and the rest of it.
-pub record Cut (l f r : Field) : Type 0 where
-  pub parts : fields (l .bytes .now) ≡ f .bytes .now ∷ fields (r .bytes .now)
-  pub line-f : f .line ≡ l .line
-  pub offset-f : f .offset ≡ l .offset
-  pub line-r : r .line ≡ l .line
-  pub offset-r : r .offset ≡ l .offset + length (f .bytes .now) + 1
 
 -- The last field stands alone.
 pub lone-told : (l : Field) → length (fields (l .bytes .now)) ≡ 1 → Fields-told (l ∷ []) (l .bytes .now) (l .line) (l .offset)

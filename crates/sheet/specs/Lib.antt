@@ -8,3 +8,4 @@ pub mod StoredKinds
 pub mod ListedLines
 pub mod FlexibleLines
 pub mod LineBytes
+pub mod FirstFields

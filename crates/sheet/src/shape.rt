@@ -1,11 +1,11 @@
 // Whether the fields of a line have the forms that are asked.
 ghost use mathlib.Core.Path.{_≡_};
 ghost use mathlib.Core.Bool.{true, false};
-ghost use mathlib.Core.List.{_∷_};
 ghost use Prim.Native.Nat.{_+_, _^_, _<_, _≤_};
 ghost use lib.ListN.{length};
 ghost use Rattle.std.specs.Results.{Cases as ByOk};
 ghost use Rattle.sheet.specs.Cuts.{fields};
+ghost use Rattle.sheet.specs.FirstFields.{Cut};
 ghost use Rattle.sheet.specs.Forms.{of-forms, good-fields};
 use crate::field::Field;
 use crate::form::Form;
@@ -47,9 +47,7 @@ pub(crate) fn good_fields(line: Field, forms: &[Form]) -> usize
 pub(crate) fn first_and_rest<'a>(line: Field<'a>) -> (Field<'a>, Field<'a>)
     requires short { ⌜ line .offset + length (now (line .bytes)) < 2 ^ 63 ⌝ }
     requires two { ⌜ 2 ≤ length (fields (now (line .bytes))) ⌝ }
-    ensures parts { λ r. ⌜ fields (now (line .entry .bytes)) ≡ now (r .0 .bytes) ∷ fields (now (r .1 .bytes)) ⌝ }
-    ensures first { λ r. ⌜ (r .0 .line ≡ line .entry .line) × (r .0 .offset ≡ line .entry .offset) ⌝ }
-    ensures rest { λ r. ⌜ (r .1 .line ≡ line .entry .line) × (r .1 .offset ≡ line .entry .offset + length (now (r .0 .bytes)) + 1) ⌝ }
+    ensures cut { λ r. ⌜ Cut (line .entry) (r .0) (r .1) ⌝ }
     ensures end { λ r. ⌜ r .1 .offset + length (now (r .1 .bytes)) ≡ line .entry .offset + length (now (line .entry .bytes)) ⌝ }
 {
     let (first, rest) = line.cut();

@@ -9,7 +9,7 @@ use sheet::Word;
 
 // What is asked of a line.
 #[derive(Clone, Copy)]
-pub enum Asked {
+pub(crate) enum Asked {
     Head(Word),
     Number,
     Listed,
@@ -18,7 +18,7 @@ pub enum Asked {
 }
 
 // The line and the field of the fault in the next line, or 0 and 0 where it is good.
-pub fn fault(asked: Asked, bytes: &[u8]) -> (usize, usize) {
+pub(crate) fn fault(asked: Asked, bytes: &[u8]) -> (usize, usize) {
     let mut reader = Reader::new(bytes);
     let told = match asked {
         Asked::Head(word) => reader.head(word).err(),

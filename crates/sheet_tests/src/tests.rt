@@ -1,4 +1,4 @@
-// The tables. A field of 0 is a good line; all lines are the first of their bytes.
+// The tables: a line, and the field at fault in it, or 0 for a good line. All lines are the first of their bytes.
 use crate::Asked;
 use crate::fault;
 use kinds::ContractRefusal;
@@ -28,16 +28,11 @@ use sheet::write_number;
 use sheet::write_position;
 use std::test::*;
 
-#[derive(Clone, Copy)]
-struct Case<'a> {
-    text: &'a str,
-    field: usize,
-}
-
-fn check_all(asked: Asked, cases: &[Case]) -> Result<(), Fail> {
+fn check_all(asked: Asked, cases: &[(&str, usize)]) -> Result<(), Fail> {
     for case in cases {
-        let (_, field) = fault(asked, case.text.as_bytes());
-        check_eq(field, case.field).note(case.text)?;
+        let (text, expected) = *case;
+        let (_, field) = fault(asked, text.as_bytes());
+        check_eq(field, expected).note(text)?;
     }
     Ok(())
 }
@@ -47,169 +42,52 @@ fn listed_lines() -> Result<(), Fail> {
     check_all(
         Asked::Listed,
         &[
-            Case {
-                text: "C 500 1\n",
-                field: 0,
-            },
-            Case {
-                text: "P 20000000 -10000\n",
-                field: 0,
-            },
-            Case {
-                text: "C 0 0\n",
-                field: 0,
-            },
-            Case {
-                text: "C 99999999 -12345678\n",
-                field: 0,
-            },
+            ("C 500 1\n", 0),
+            ("P 20000000 -10000\n", 0),
+            ("C 0 0\n", 0),
+            ("C 99999999 -12345678\n", 0),
             // a byte that makes its field bad
-            Case {
-                text: "c 500 1\n",
-                field: 1,
-            },
-            Case {
-                text: "D 500 1\n",
-                field: 1,
-            },
-            Case {
-                text: "CC 500 1\n",
-                field: 1,
-            },
-            Case {
-                text: "C\t500 1\n",
-                field: 1,
-            },
-            Case {
-                text: "C 500\t1\n",
-                field: 2,
-            },
-            Case {
-                text: "C 5a0 1\n",
-                field: 2,
-            },
-            Case {
-                text: "C 500 1\r\n",
-                field: 3,
-            },
-            Case {
-                text: "C 500 1\0\n",
-                field: 3,
-            },
-            Case {
-                text: "C 500 ä\n",
-                field: 3,
-            },
+            ("c 500 1\n", 1),
+            ("D 500 1\n", 1),
+            ("CC 500 1\n", 1),
+            ("C\t500 1\n", 1),
+            ("C 500\t1\n", 2),
+            ("C 5a0 1\n", 2),
+            ("C 500 1\r\n", 3),
+            ("C 500 1\0\n", 3),
+            ("C 500 ä\n", 3),
             // spaces
-            Case {
-                text: " C 500 1\n",
-                field: 1,
-            },
-            Case {
-                text: "C  500 1\n",
-                field: 2,
-            },
-            Case {
-                text: "C 500  1\n",
-                field: 3,
-            },
-            Case {
-                text: "C 500 1 \n",
-                field: 4,
-            },
+            (" C 500 1\n", 1),
+            ("C  500 1\n", 2),
+            ("C 500  1\n", 3),
+            ("C 500 1 \n", 4),
             // missing and extra fields
-            Case {
-                text: "\n",
-                field: 1,
-            },
-            Case {
-                text: "C\n",
-                field: 2,
-            },
-            Case {
-                text: "C 500\n",
-                field: 3,
-            },
-            Case {
-                text: "C 500 1 7\n",
-                field: 4,
-            },
-            Case {
-                text: "C x 1 7\n",
-                field: 2,
-            },
+            ("\n", 1),
+            ("C\n", 2),
+            ("C 500\n", 3),
+            ("C 500 1 7\n", 4),
+            ("C x 1 7\n", 2),
             // numbers
-            Case {
-                text: "C 0500 1\n",
-                field: 2,
-            },
-            Case {
-                text: "C -500 1\n",
-                field: 2,
-            },
-            Case {
-                text: "C +500 1\n",
-                field: 2,
-            },
-            Case {
-                text: "C 123456789 1\n",
-                field: 2,
-            },
-            Case {
-                text: "C 500 -0\n",
-                field: 3,
-            },
-            Case {
-                text: "C 500 +1\n",
-                field: 3,
-            },
-            Case {
-                text: "C 500 --1\n",
-                field: 3,
-            },
-            Case {
-                text: "C 500 -\n",
-                field: 3,
-            },
-            Case {
-                text: "C 500 01\n",
-                field: 3,
-            },
-            Case {
-                text: "C 500 -123456789\n",
-                field: 3,
-            },
+            ("C 0500 1\n", 2),
+            ("C -500 1\n", 2),
+            ("C +500 1\n", 2),
+            ("C 123456789 1\n", 2),
+            ("C 500 -0\n", 3),
+            ("C 500 +1\n", 3),
+            ("C 500 --1\n", 3),
+            ("C 500 -\n", 3),
+            ("C 500 01\n", 3),
+            ("C 500 -123456789\n", 3),
             // a last line without its line feed
-            Case {
-                text: "C 500 1",
-                field: 4,
-            },
-            Case {
-                text: "C 500",
-                field: 3,
-            },
-            Case {
-                text: "C x 1",
-                field: 2,
-            },
-            Case {
-                text: "C 500 1 7",
-                field: 4,
-            },
-            Case { text: "", field: 1 },
+            ("C 500 1", 4),
+            ("C 500", 3),
+            ("C x 1", 2),
+            ("C 500 1 7", 4),
+            ("", 1),
             // a head or a flexible line in the place of a listed one
-            Case {
-                text: "positions 1\n",
-                field: 1,
-            },
-            Case {
-                text: "C 500 600 1\n",
-                field: 4,
-            },
-            Case {
-                text: "C 500 - 1\n",
-                field: 3,
-            },
+            ("positions 1\n", 1),
+            ("C 500 600 1\n", 4),
+            ("C 500 - 1\n", 3),
         ],
     )
 }
@@ -219,46 +97,16 @@ fn flexible_lines() -> Result<(), Fail> {
     check_all(
         Asked::Flexible,
         &[
-            Case {
-                text: "C 500 600 1\n",
-                field: 0,
-            },
-            Case {
-                text: "P 500 0 -1\n",
-                field: 0,
-            },
-            Case {
-                text: "C 500 - -1\n",
-                field: 0,
-            },
-            Case {
-                text: "C 500 1\n",
-                field: 4,
-            },
-            Case {
-                text: "C 500 -5 1\n",
-                field: 3,
-            },
-            Case {
-                text: "C 500 -- 1\n",
-                field: 3,
-            },
-            Case {
-                text: "C 500 00 1\n",
-                field: 3,
-            },
-            Case {
-                text: "C 500  1\n",
-                field: 3,
-            },
-            Case {
-                text: "C 500 600 1",
-                field: 5,
-            },
-            Case {
-                text: "C 500 600 1 \n",
-                field: 5,
-            },
+            ("C 500 600 1\n", 0),
+            ("P 500 0 -1\n", 0),
+            ("C 500 - -1\n", 0),
+            ("C 500 1\n", 4),
+            ("C 500 -5 1\n", 3),
+            ("C 500 -- 1\n", 3),
+            ("C 500 00 1\n", 3),
+            ("C 500  1\n", 3),
+            ("C 500 600 1", 5),
+            ("C 500 600 1 \n", 5),
         ],
     )
 }
@@ -268,120 +116,41 @@ fn heads_and_numbers() -> Result<(), Fail> {
     check_all(
         Asked::Head(Word::Market),
         &[
-            Case {
-                text: "market 5\n",
-                field: 0,
-            },
-            Case {
-                text: "market 6\n",
-                field: 2,
-            },
-            Case {
-                text: "market 05\n",
-                field: 2,
-            },
-            Case {
-                text: "Market 5\n",
-                field: 1,
-            },
-            Case {
-                text: "market\n",
-                field: 2,
-            },
-            Case {
-                text: "market 5 \n",
-                field: 3,
-            },
-            Case {
-                text: "market 5",
-                field: 3,
-            },
-            Case { text: "", field: 1 },
+            ("market 5\n", 0),
+            ("market 6\n", 2),
+            ("market 05\n", 2),
+            ("Market 5\n", 1),
+            ("market\n", 2),
+            ("market 5 \n", 3),
+            ("market 5", 3),
+            ("", 1),
         ],
     )?;
     check_all(
         Asked::Head(Word::Positions),
         &[
-            Case {
-                text: "positions 0\n",
-                field: 0,
-            },
-            Case {
-                text: "positions 129\n",
-                field: 0,
-            },
-            Case {
-                text: "positions 123456789\n",
-                field: 2,
-            },
-            Case {
-                text: "positions -1\n",
-                field: 2,
-            },
-            Case {
-                text: "position 1\n",
-                field: 1,
-            },
-            Case {
-                text: "1\n",
-                field: 1,
-            },
+            ("positions 0\n", 0),
+            ("positions 129\n", 0),
+            ("positions 123456789\n", 2),
+            ("positions -1\n", 2),
+            ("position 1\n", 1),
+            ("1\n", 1),
         ],
     )?;
-    check_all(
-        Asked::Head(Word::Scenarios),
-        &[Case {
-            text: "scenarios 405\n",
-            field: 0,
-        }],
-    )?;
+    check_all(Asked::Head(Word::Scenarios), &[("scenarios 405\n", 0)])?;
     check_all(
         Asked::Number,
         &[
-            Case {
-                text: "1000000\n",
-                field: 0,
-            },
-            Case {
-                text: "0\n",
-                field: 0,
-            },
-            Case {
-                text: "00\n",
-                field: 1,
-            },
-            Case {
-                text: "\n",
-                field: 1,
-            },
-            Case {
-                text: "1 \n",
-                field: 2,
-            },
-            Case {
-                text: "-1\n",
-                field: 1,
-            },
-            Case {
-                text: "7",
-                field: 2,
-            },
+            ("1000000\n", 0),
+            ("0\n", 0),
+            ("00\n", 1),
+            ("\n", 1),
+            ("1 \n", 2),
+            ("-1\n", 1),
+            ("7", 2),
         ],
     )?;
-    check_all(
-        Asked::End,
-        &[
-            Case { text: "", field: 0 },
-            Case {
-                text: "\n",
-                field: 1,
-            },
-            Case {
-                text: "x",
-                field: 1,
-            },
-        ],
-    )
+    check_all(Asked::End, &[("", 0), ("\n", 1), ("x", 1)])
 }
 
 // Lines count from 1, offsets from 0; the second walk tells the same.

@@ -27,8 +27,12 @@ returns c =
     let p = subst (Places (c .args .line)) (c .in-Some .is) (c .cut .ensures .place) in
     let n = ap length (c .cut .ensures .first .0) in
     record {
-      parts = fields-cut bs ∙ ap₂ (λ x o. x ∷ fields-left o) (sym (c .cut .ensures .first .0)) a;
-      first = (c .cut .ensures .first .1, c .cut .ensures .first .2);
-      rest = (p .0, omega (arith, p .1, n));
+      cut = record {
+        parts = fields-cut bs ∙ ap₂ (λ x o. x ∷ fields-left o) (sym (c .cut .ensures .first .0)) a;
+        line-f = c .cut .ensures .first .1;
+        offset-f = c .cut .ensures .first .2;
+        line-r = p .0;
+        offset-r = omega (arith, p .1, n);
+      };
       end = p .2;
     }
