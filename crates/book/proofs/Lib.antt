@@ -15,3 +15,5 @@ pub mod FoundPlaces
 pub mod ScenarioCovers
 pub mod ExampleMargins
 pub mod KeptTallies
+pub mod RunSteps
+pub mod RightRuns

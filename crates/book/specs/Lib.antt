@@ -7,3 +7,5 @@ pub mod Markets
 pub mod Tallies
 pub mod Scenarios
 pub mod Examples
+pub mod Runs
+pub mod RunLaws

@@ -1,5 +1,6 @@
 // What is proved of every kind that keeps the six rules: each function's contract is a theorem, and its reply means nothing.
 ghost use Rattle.book.specs.Theorems.{Corners-bound, Corners-suffice, Corner-formula, One-margin, Sales-raise, Purchases-lower, Sold-bounds, Trades-keep, Changes-keep, Trades-add-up};
+ghost use Rattle.book.specs.RunLaws.{Runs-right, Nets-add-up};
 ghost use Rattle.book.specs.Examples.{Examples-hold};
 use kinds::Kind;
 
@@ -69,6 +70,20 @@ pub(crate) fn changes_keep<K: Kind>() -> u8
 // A trade adds its quantity to the net quantity in its contract, and to no other.
 pub(crate) fn trades_add_up<K: Kind>() -> u8
     ensures { λ _. ⌜ Trades-add-up (K·Kind .means) ⌝ }
+{
+    0
+}
+
+// Every run of a kept book is right: refusals, margins at every whole price, sales, purchases and the bound by what is held sold.
+pub(crate) fn run_law<K: Kind>() -> u8
+    ensures { λ _. ⌜ Runs-right (K·Kind .means) ⌝ }
+{
+    0
+}
+
+// Each contract's net quantity is what it was at the start plus the sum of the accepted trades in it.
+pub(crate) fn nets_add_up<K: Kind>() -> u8
+    ensures { λ _. ⌜ Nets-add-up (K·Kind .means) ⌝ }
 {
     0
 }

@@ -1,6 +1,7 @@
 // Books of options: market, positions, protected value, the worst price and the margins. Nothing is public yet.
 mod ask;
 mod book;
+mod call;
 mod change;
 mod contracts;
 mod find;
@@ -13,6 +14,7 @@ mod open;
 mod places;
 mod position;
 mod refusal;
+mod run;
 mod scenario;
 mod times;
 mod trade;
