@@ -1,20 +1,19 @@
 -- The protected loss of a book whose contracts fit: straight except at the corners, and bounded by what is held sold.
-use mathlib.Core.Path.{_≡_, sym, ap, _∙_, subst}
+use mathlib.Core.Path.{_≡_, sym, ap, _∙_}
 use mathlib.Core.Bool.{true}
 use mathlib.Core.List.{List, [], _∷_, _++_}
-use Prim.Native.Nat.{ℕ, zero, suc, _+_, _-_, _*_, _≤_, _<_, min}
-use native.Mathlib.Nat.{add-mul, mul-le-mul-left, min-le-right}
+use Prim.Native.Nat.{ℕ, suc, _+_, _-_, _*_, _≤_}
+use native.Mathlib.Nat.{add-mul, mul-le-mul-left}
 use native.Mathlib.Omega.{arith}
-use lib.IntN.{ℤ, pos, negsuc, _+ℤ_, _*ℤ_, negℤ}
-use lib.Signed.{_≤ℤ_, _<ℤ_}
+use lib.IntN.{ℤ, pos, negsuc, _*ℤ_, negℤ}
+use lib.Signed.{_≤ℤ_}
 use borrow.Author.Differences.{ints}
 use Rattle.std.specs.shelf.Lists.{All}
-use Rattle.std.proofs.shelf.Elements.{all-weaker}
 use Rattle.book.specs.declared.position.Position.{Position}
 use Rattle.kinds.specs.Kinds.{Meaning, Lawful, Apart, Straight-at}
 use Rattle.book.specs.Prices.{Ahead, Worst}
-use Rattle.book.specs.Losses.{paid, worth, value, lost, loss, told, corners, Fitting, short, sold}
-use Rattle.book.proofs.Integers.{times-add, add-times, times-le, times-lt}
+use Rattle.book.specs.Losses.{paid, value, lost, loss, told, corners, Fitting, short, sold}
+use Rattle.book.proofs.Integers.{times-add, add-times, times-le}
 use Rattle.book.proofs.StraightLosses.{Straight, Bent}
 use Rattle.book.proofs.StraightLosses as straight
 
@@ -90,7 +89,7 @@ module _ {C : Type 0} (K : Meaning C) (laws : Lawful K) (v u : ℕ) where
       }
 
       pub loss-everywhere : (M : ℤ) → All (λ c. loss K v scale ps c ≤ℤ M) (0 ∷ corners K v ps) → (x : ℕ) → loss K v scale ps x ≤ℤ M
-      loss-everywhere M h = straight.everywhere (loss K v scale ps) (corners K v ps) loss-bent M (h .0) (h .1)
+      loss-everywhere M h = straight.everywhere (loss K v scale ps) (corners K v ps) loss-bent M (h .1) (h .0)
 
       pub loss-worst : (p : ℕ) → All (Ahead (loss K v scale ps) p) (0 ∷ corners K v ps) → Worst (loss K v scale ps) p
       loss-worst = straight.worst (loss K v scale ps) (corners K v ps) loss-bent

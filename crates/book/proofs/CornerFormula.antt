@@ -1,8 +1,8 @@
 -- The margin as a formula over price 0 and the corners.
-use mathlib.Core.Path.{_≡_, refl}
+use mathlib.Core.Path.{refl}
 use mathlib.Core.Logic.{⊎-elim}
 use mathlib.Core.List.{List, [], _∷_, map}
-use Prim.Native.Nat.{ℕ, _*_, _≤_}
+use Prim.Native.Nat.{ℕ, _*_}
 use native.Mathlib.Omega.{arith}
 use lib.IntN.{ℤ, pos}
 use lib.Signed.{_≤ℤ_}
@@ -10,20 +10,18 @@ use borrow.Author.Differences.{ints}
 use Rattle.std.specs.Numbers.{maxZ}
 use Rattle.std.specs.shelf.Lists.{All, folded}
 use Rattle.std.proofs.shelf.Signed.{folded-maxZ-bounds, folded-maxZ-reached}
-use Rattle.std.proofs.shelf.Elements.{all-map, all-has, all-from-getD}
-use Rattle.book.specs.declared.position.Position.{Position}
+use Rattle.std.proofs.shelf.Elements.{all-map, all-has}
 use Rattle.kinds.specs.Kinds.{Meaning, Lawful}
-use Rattle.book.specs.Prices.{Covers, Least, centavos}
-use Rattle.book.specs.Losses.{loss, corners, Fitting}
+use Rattle.book.specs.Losses.{loss, corners}
 use Rattle.book.specs.Theorems.{Corner-formula}
 use Rattle.book.proofs.BookLosses.{loss-everywhere}
 use Rattle.book.proofs.Rounding.{centavos-cover, centavos-least}
 
-all-unmap : {X Y : Type 0} (P : Y → Type 0) (f : X → Y) (xs : List X) → All P (map f xs) → All (λ x. P (f x)) xs
+pub all-unmap : {X Y : Type 0} (P : Y → Type 0) (f : X → Y) (xs : List X) → All P (map f xs) → All (λ x. P (f x)) xs
 all-unmap P f [] h = tt
 all-unmap P f (x ∷ xs) h = (h .0, all-unmap P f xs (h .1))
 
-each : {X : Type 0} (P : X → Type 0) → ((x : X) → P x) → (xs : List X) → All P xs
+pub each : {X : Type 0} (P : X → Type 0) → ((x : X) → P x) → (xs : List X) → All P xs
 each P h [] = tt
 each P h (x ∷ xs) = (h x, each P h xs)
 

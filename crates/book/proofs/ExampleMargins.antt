@@ -1,12 +1,12 @@
 -- The worked examples hold: a margin is shown by computing at the corners.
-use mathlib.Core.Path.{_≡_, refl, sym, ap, subst, _∙_}
+use mathlib.Core.Path.{_≡_, refl, subst}
 use mathlib.Core.Bool.{Bool, true, false, _&&_, _||_}
 use mathlib.Core.List.{List, [], _∷_}
-use Prim.Native.Nat.{ℕ, _≤_, _<_, _*_}
+use Prim.Native.Nat.{ℕ}
 use native.Mathlib.Omega.{arith}
 use lib.Dec.{leb, eqb}
 use lib.IntN.{ℤ, pos}
-use lib.Signed.{ltZ, leZ, _≤ℤ_, _<ℤ_}
+use lib.Signed.{ltZ, leZ, _≤ℤ_}
 use borrow.Author.Differences.{ints}
 use Rattle.std.specs.Options.{Cases}
 use Rattle.std.specs.shelf.Lists.{All}
@@ -21,7 +21,7 @@ use Rattle.kinds.proofs.ListedRules.{listed-lawful}
 use Rattle.kinds.proofs.FlexibleRules.{flexible-lawful}
 use Rattle.book.specs.declared.market.Market.{Market}
 use Rattle.book.specs.declared.position.Position.{Position}
-use Rattle.book.specs.Prices.{Ahead, Worst, Margin, centavos}
+use Rattle.book.specs.Prices.{Ahead, Margin, centavos}
 use Rattle.book.specs.Losses.{loss, corners, Fitting}
 use Rattle.book.specs.Markets.{variation-of, price-unit}
 use Rattle.book.specs.Tallies.{Tally, trade-refusal}

@@ -1,10 +1,10 @@
 -- What trades and market changes keep.
-use mathlib.Core.Path.{_≡_, refl, sym, ap, _∙_, subst}
-use mathlib.Core.Bool.{Bool, true, false, not, cond}
+use mathlib.Core.Path.{_≡_, refl, sym, ap}
+use mathlib.Core.Bool.{Bool, true, false, cond}
 use mathlib.Core.List.{List, [], _∷_}
 use Prim.Native.Nat.{ℕ, zero, suc}
 use native.Mathlib.Omega.{arith}
-use lib.IntN.{ℤ, pos, negsuc, _+ℤ_, natAbs}
+use lib.IntN.{ℤ, pos, negsuc, _+ℤ_}
 use borrow.Author.Differences.{ints}
 use Rattle.std.specs.shelf.Lists.{All}
 use Rattle.std.specs.Options.{mapped}
@@ -13,11 +13,10 @@ use Rattle.std.specs.declared.option.Option.the-variants.{Some, None}
 use Rattle.std.proofs.shelf.Tests.{not-false}
 use Rattle.kinds.specs.Kinds.{Meaning, Lawful}
 use Rattle.book.specs.declared.position.Position.{Position}
-use Rattle.book.specs.declared.market.Market.{Market}
 use Rattle.book.specs.declared.refusal.Refusal.{Refusal}
 use Rattle.book.specs.Losses.{Fitting}
 use Rattle.book.specs.Markets.{market-refusal, variation-of}
-use Rattle.book.specs.Tallies.{Tally, Kept, Distinct, or-else, first-unfit, change-refusal}
+use Rattle.book.specs.Tallies.{Distinct, or-else, first-unfit}
 use Rattle.book.specs.Theorems.{Trades-keep, Changes-keep, Trades-add-up}
 use Rattle.book.specs.Trades.{put, traded, net-in}
 use Rattle.book.proofs.TradeEffects.{traded-fitting}

@@ -7,6 +7,8 @@ pub mod SearchSteps
 pub mod MarginAnswers
 pub mod ValueBounds
 pub mod CornerFormula
+pub mod PriceZero
+pub mod CircularMargins
 pub mod MarketFacts
 pub mod TradedLists
 pub mod EndRefusals

@@ -1,25 +1,19 @@
 -- The answer to the margin question: how a worst price gives it, that there is one, and how high it may be.
-use mathlib.Core.Path.{_≡_, refl, sym, ap, _∙_, subst}
+use mathlib.Core.Path.{_≡_, refl, ap}
 use mathlib.Core.Logic.{⊎-elim}
-use mathlib.Core.List.{List, [], _∷_}
-use Prim.Native.Nat.{ℕ, zero, suc, _+_, _*_, _/_, _≤_, _<_}
-use native.Mathlib.Nat.{mul-le-mul, mul-le-mul-right, mul-assoc}
+use Prim.Native.Nat.{ℕ, _*_}
 use native.Mathlib.Omega.{arith}
-use lib.IntN.{ℤ, pos, negsuc, _+ℤ_, _*ℤ_, negℤ}
+use lib.IntN.{ℤ, pos}
 use lib.Signed.{_≤ℤ_, _<ℤ_}
 use borrow.Author.Differences.{ints}
 use Rattle.std.specs.declared.option.Option.{Option}
 use Rattle.std.specs.declared.option.Option.the-variants.{Some, None}
-use Rattle.std.specs.Options.{Cases}
 use Rattle.std.proofs.shelf.Tests.{cases-order}
-use Rattle.book.specs.declared.position.Position.{Position}
 use Rattle.kinds.specs.Kinds.{Meaning, Lawful}
 use Rattle.book.specs.Prices.{Worst, Covers, Least, Margin, centavos}
-use Rattle.book.specs.Losses.{loss, sold, Fitting}
+use Rattle.book.specs.Losses.{sold}
 use Rattle.book.specs.Theorems.{One-margin, Sold-bounds, Corners-bound, Corners-suffice}
-use Rattle.book.proofs.Rounding.{worst-covers, centavos-cover, centavos-least}
-use Rattle.book.proofs.Integers.{times-le}
-use Rattle.book.proofs.SearchSteps.{worst-scaled}
+use Rattle.book.proofs.Rounding.{worst-covers, centavos-cover}
 use Rattle.book.proofs.BookLosses as losses
 
 pub corners-bound : {C : Type 0} (K : Meaning C) → Lawful K → Corners-bound K

@@ -1,7 +1,7 @@
 -- What follows for a market that no cause turns away.
 use mathlib.Core.Path.{_≡_, refl, ap, _∙_}
-use mathlib.Core.Bool.{Bool, true, false, cond, _||_}
-use Prim.Native.Nat.{ℕ, _*_, _/_, _≤_}
+use mathlib.Core.Bool.{Bool, true, false, cond}
+use Prim.Native.Nat.{ℕ, _*_, _≤_}
 use native.Mathlib.Nat.{mul-le-mul, mul-le-mul-right, mul-assoc, mul-left-comm}
 use native.Mathlib.Omega.{arith}
 use lib.Dec.{ltb}

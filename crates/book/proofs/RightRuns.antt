@@ -1,11 +1,9 @@
 -- Every run of a kept tally is right, and its trades add up.
-use mathlib.Core.Path.{_≡_, refl, sym, ap, subst, _∙_}
-use mathlib.Core.List.{List, [], _∷_}
+use mathlib.Core.Path.{_≡_, sym, ap, subst, _∙_}
 use Prim.Native.Nat.{ℕ, _*_, _≤_}
 use native.Mathlib.Nat.{mul-assoc}
 use native.Mathlib.Omega.{arith}
 use lib.IntN.{ℤ, pos, _+ℤ_}
-use lib.Signed.{_≤ℤ_}
 use borrow.Author.Differences.{ints}
 use Rattle.kinds.specs.Kinds.{Meaning, Lawful}
 use Rattle.book.specs.declared.call.Call.{Call}
@@ -15,8 +13,8 @@ use Rattle.book.specs.declared.call.Reply.the-variants as reply
 use Rattle.book.specs.Losses.{sold}
 use Rattle.book.specs.Markets.{variation-of, price-unit, unit-margin}
 use Rattle.book.specs.Prices.{Least, Covers, centavos}
-use Rattle.book.specs.RunLaws.{Answers, Effects, Moves, Right-run, ends, goes, Runs-right, added, all-added, Nets-add-up}
-use Rattle.book.specs.Runs.{loss-of, Step, Run, none, more}
+use Rattle.book.specs.RunLaws.{Answers, Effects, Moves, ends, goes, Runs-right, added, Nets-add-up}
+use Rattle.book.specs.Runs.{loss-of, Step, none, more}
 use Rattle.book.specs.Tallies.{Tally, Kept, holding}
 use Rattle.book.specs.Trades.{traded, net-in}
 use Rattle.book.proofs.KeptTallies.{trades-keep, changes-keep, trades-add-up}

@@ -1,11 +1,10 @@
 -- The least number of centavos that covers a loss at every whole price.
-use mathlib.Core.Path.{_≡_, sym, ap, _∙_, subst}
-use Prim.Native.Nat.{ℕ, zero, suc, _+_, _-_, _*_, _/_, _≤_, _<_}
+use Prim.Native.Nat.{ℕ, _*_, _≤_}
 use native.Mathlib.Omega.{arith}
-use lib.IntN.{ℤ, pos, negsuc, _+ℤ_, _*ℤ_, negℤ}
-use lib.Signed.{_≤ℤ_, _<ℤ_}
+use lib.IntN.{ℤ, pos, negsuc}
+use lib.Signed.{_≤ℤ_}
 use borrow.Author.Differences.{ints}
-use Rattle.book.specs.Prices.{Ahead, Worst, Covers, Least, centavos}
+use Rattle.book.specs.Prices.{Worst, Covers, Least, centavos}
 
 pub centavos-cover : (z : ℤ) → z ≤ℤ pos (centavos z * 1000000)
 centavos-cover (pos n) = omega (arith, ints)

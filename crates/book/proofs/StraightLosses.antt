@@ -1,10 +1,10 @@
 -- A function of the whole prices that is bounded above and straight except at some corners: where it is greatest.
-use mathlib.Core.Path.{_≡_, sym, ap, _∙_, subst}
-use mathlib.Core.Logic.{_≢_, inl, inr, ⊎-elim}
-use mathlib.Core.List.{List, [], _∷_}
-use Prim.Native.Nat.{ℕ, zero, suc, _+_, _-_, _*_, _≤_, _<_}
+use mathlib.Core.Path.{_≡_, ap}
+use mathlib.Core.Logic.{_≢_}
+use mathlib.Core.List.{List, _∷_}
+use Prim.Native.Nat.{ℕ, zero, suc, _+_, _<_}
 use native.Mathlib.Omega.{arith}
-use lib.IntN.{ℤ, pos, negsuc, _+ℤ_, _*ℤ_, negℤ}
+use lib.IntN.{ℤ, pos, _+ℤ_}
 use lib.Signed.{_≤ℤ_, _<ℤ_}
 use borrow.Author.Differences.{ints, down}
 use Rattle.std.specs.shelf.Lists.{All}
@@ -22,7 +22,7 @@ pub record Bent (f : ℕ → ℤ) (bs : List ℕ) : Type 0 where
   pub bound : ℕ
   pub bounded : (x : ℕ) → f x ≤ℤ pos bound
 
-module _ (f : ℕ → ℤ) (bs : List ℕ) (b : Bent f bs) (M : ℤ) (low : f 0 ≤ℤ M) (lows : All (λ c. f c ≤ℤ M) bs) where
+module _ (f : ℕ → ℤ) (bs : List ℕ) (b : Bent f bs) (M : ℤ) (lows : All (λ c. f c ≤ℤ M) bs) where
   -- a price with a loss above M is no corner
   above-apart : (x : ℕ) → M <ℤ f x → Apart x bs
   above-apart x h = all-weaker (λ c. f c ≤ℤ M) (λ c. c ≢ x) (λ c k e. let q = ap f e in omega (arith, ints)) bs lows
@@ -46,13 +46,23 @@ module _ (f : ℕ → ℤ) (bs : List ℕ) (b : Bent f bs) (M : ℤ) (low : f 0 
       omega (arith, ints)
 
   -- what bounds the loss at price 0 and at the corners bounds it at every whole price
-  pub everywhere : (x : ℕ) → f x ≤ℤ M
-  everywhere zero = low
-  everywhere (suc x) = by-ltZ M (f (suc x)) (λ m. absurd (never x (everywhere x) m)) (λ h. h)
+  pub everywhere : f 0 ≤ℤ M → (x : ℕ) → f x ≤ℤ M
+  everywhere low zero = low
+  everywhere low (suc x) = by-ltZ M (f (suc x)) (λ m. absurd (never x (everywhere low x) m)) (λ h. h)
+
+  -- a loss above M at price 0 that does not fall at once never falls
+  pub never-falls : M <ℤ f 0 → f 0 ≤ℤ f 1 → (x : ℕ) → (f 0 ≤ℤ f x) × (f x ≤ℤ f (suc x))
+  never-falls high up zero = (omega (arith, ints), up)
+  never-falls high up (suc x) =
+      let h = never-falls high up x in
+      let low = h .0 in
+      let on = h .1 in
+      let e = b .straight x (above-apart (suc x) (omega (arith, ints))) in
+      (omega (arith, ints), omega (arith, ints))
 
 module _ (f : ℕ → ℤ) (bs : List ℕ) (b : Bent f bs) (p : ℕ) (ahead : All (Ahead f p) (0 ∷ bs)) where
   at-most : (x : ℕ) → f x ≤ℤ f p
-  at-most = everywhere f bs b (f p) (ahead .0 .no-less) (all-weaker (Ahead f p) (λ c. f c ≤ℤ f p) (λ c a. a .no-less) bs (ahead .1))
+  at-most = everywhere f bs b (f p) (all-weaker (Ahead f p) (λ c. f c ≤ℤ f p) (λ c a. a .no-less) bs (ahead .1)) (ahead .0 .no-less)
 
   -- a lower price with as great a loss is no corner
   equal-apart : (x : ℕ) → x < p → f p ≤ℤ f x → Apart x bs

@@ -1,16 +1,15 @@
 -- What a trade does to the value and to the margin.
-use mathlib.Core.Path.{_≡_, refl, sym, ap, _∙_, subst}
-use mathlib.Core.Bool.{Bool, true, false, cond}
+use mathlib.Core.Path.{_≡_, refl, ap, _∙_}
+use mathlib.Core.Bool.{true, false, cond}
 use mathlib.Core.List.{List, [], _∷_}
-use Prim.Native.Nat.{ℕ, zero, suc, _+_, _*_, _≤_}
+use Prim.Native.Nat.{ℕ, zero, suc, _≤_}
 use native.Mathlib.Nat.{mul-le-mul-right}
 use native.Mathlib.Omega.{arith}
 use lib.IntN.{ℤ, pos, negsuc, _+ℤ_, _*ℤ_, negℤ}
-use lib.Signed.{_≤ℤ_, _<ℤ_}
+use lib.Signed.{_≤ℤ_}
 use borrow.Author.Differences.{ints}
 use Rattle.book.specs.declared.position.Position.{Position}
-use Rattle.kinds.specs.Kinds.{Meaning, Lawful}
-use Rattle.book.specs.Prices.{Covers, Least}
+use Rattle.kinds.specs.Kinds.{Meaning}
 use Rattle.book.specs.Losses.{paid, worth, value, loss, Fitting}
 use Rattle.book.specs.Trades.{put, traded}
 use Rattle.book.specs.Theorems.{Sales-raise, Purchases-lower}

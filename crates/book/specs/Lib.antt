@@ -9,3 +9,4 @@ pub mod Scenarios
 pub mod Examples
 pub mod Runs
 pub mod RunLaws
+pub mod CircularSteps

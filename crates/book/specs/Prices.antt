@@ -1,7 +1,6 @@
 -- A loss at each whole price: where it is greatest, and which whole numbers of centavos cover it.
 -- A loss is an integer of exact units, a millionth of a centavo; below zero it is a gain.
 use Prim.Native.Nat.{ℕ, _+_, _*_, _/_, _≤_, _<_}
-use mathlib.Core.Path.{_≡_}
 use mathlib.Core.List.{List}
 use lib.IntN.{ℤ, pos, negsuc}
 use lib.Signed.{_≤ℤ_, _<ℤ_}
@@ -50,3 +49,10 @@ pub record Margin (loss : ℕ → ℤ) (n : ℕ) (at : Option ℕ) : Type 0 wher
 -- n centavos also cover every loss of this list.
 abbrev pub Covers-both : (ℕ → ℤ) → List ℤ → ℕ → Type 0
 Covers-both loss losses n = Covers loss n × All (λ z. z ≤ℤ pos (n * 1000000)) losses
+
+-- z is the least amount of exact units, not below zero, that covers the loss at every whole price and every loss of this list.
+pub record Exact (loss : ℕ → ℤ) (losses : List ℤ) (z : ℤ) : Type 0 where
+  pub not-below : pos 0 ≤ℤ z
+  pub everywhere : (x : ℕ) → loss x ≤ℤ z
+  pub each : All (λ y. y ≤ℤ z) losses
+  pub least : (m : ℤ) → pos 0 ≤ℤ m → ((x : ℕ) → loss x ≤ℤ m) → All (λ y. y ≤ℤ m) losses → z ≤ℤ m

@@ -2,7 +2,7 @@
 -- In all of them v is the variation, u the ceiling, scale the exact units for one hundredth of a point of one contract,
 -- and ps the positions of a book.
 use mathlib.Core.Path.{_≡_}
-use mathlib.Core.Bool.{true, cond}
+use mathlib.Core.Bool.{cond}
 use mathlib.Core.List.{List, [], _∷_, map}
 use Prim.Native.Nat.{ℕ, _*_, _≤_}
 use lib.IntN.{ℤ, pos, _+ℤ_}
@@ -12,7 +12,11 @@ use Rattle.std.specs.Numbers.{maxZ}
 use Rattle.std.specs.shelf.Lists.{All, folded}
 use Rattle.book.specs.declared.position.Position.{Position}
 use Rattle.kinds.specs.Kinds.{Meaning}
-use Rattle.book.specs.Prices.{Ahead, Worst, Covers, Least, Margin, centavos}
+use Rattle.kinds.specs.declared.listed.Listed.{Listed}
+use Rattle.kinds.specs.ListedOptions.{listed}
+use Rattle.book.specs.CircularSteps.{protected-portfolio, circular-minimum, scenario-values, circular-required}
+use Rattle.book.specs.Scenarios.{scenario-losses}
+use Rattle.book.specs.Prices.{Ahead, Worst, Covers, Covers-both, Exact, Least, Margin, centavos}
 use Rattle.book.specs.Losses.{loss, corners, Fitting, sold}
 use Rattle.book.specs.Trades.{traded, net-in}
 use Rattle.book.specs.Tallies.{Tally, Kept, holding, in-market, trade-refusal, change-refusal}
@@ -70,3 +74,24 @@ Changes-keep {C} K = (t : Tally C) (m : Market) → Kept K t → change-refusal 
 -- A trade adds its quantity to the net quantity in its contract, and to no other.
 abbrev pub Trades-add-up : {C : Type 0} → Meaning C → Type 0
 Trades-add-up {C} K = (ps : List (Position C)) (c d : C) (q : ℤ) → net-in K d (traded K c q ps) ≡ net-in K d ps +ℤ cond (K .same c d) q (pos 0)
+
+-- Price 0, which the circular leaves out, never raises the greatest loss.
+abbrev pub Zero-never-raises : {C : Type 0} → Meaning C → Type 0
+Zero-never-raises {C} K =
+    (v u scale : ℕ) (ps : List (Position C)) → Fitting K v u ps →
+    (most : ℤ) → pos 0 ≤ℤ most → All (λ c. loss K v scale ps c ≤ℤ most) (corners K v ps) → loss K v scale ps 0 ≤ℤ most
+
+-- The circular's minimum margin is, in exact units and rounded up to a centavo, the least that covers the protected loss at
+-- every whole price.
+abbrev pub Circular-minimum : Type 0
+Circular-minimum =
+    (v u unit : ℕ) (ps : List (Position Listed)) → Fitting listed v u ps →
+    Exact (loss listed v unit ps) [] (circular-minimum unit (protected-portfolio v ps))
+    × Least (Covers (loss listed v unit ps)) (centavos (circular-minimum unit (protected-portfolio v ps)))
+
+-- Its required margin is, in exact units and rounded up, the least that also covers the loss in every scenario.
+abbrev pub Circular-required : Type 0
+Circular-required =
+    (v u unit value-unit : ℕ) (ps : List (Position Listed)) (scenarios : ℕ) (table : List ℕ) → Fitting listed v u ps →
+    Exact (loss listed v unit ps) (scenario-losses value-unit ps scenarios table) (circular-required (circular-minimum unit (protected-portfolio v ps)) (scenario-values value-unit ps scenarios table))
+    × Least (Covers-both (loss listed v unit ps) (scenario-losses value-unit ps scenarios table)) (centavos (circular-required (circular-minimum unit (protected-portfolio v ps)) (scenario-values value-unit ps scenarios table)))

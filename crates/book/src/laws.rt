@@ -1,5 +1,7 @@
 // What is proved of every kind that keeps the six rules: each function's contract is a theorem, and its reply means nothing.
-ghost use Rattle.book.specs.Theorems.{Corners-bound, Corners-suffice, Corner-formula, One-margin, Sales-raise, Purchases-lower, Sold-bounds, Trades-keep, Changes-keep, Trades-add-up};
+ghost use Rattle.book.specs.Theorems.{Corners-bound, Corners-suffice, Corner-formula, One-margin, Sales-raise, Purchases-lower, Sold-bounds, Trades-keep, Changes-keep, Trades-add-up, Zero-never-raises, Circular-minimum, Circular-required};
+ghost use Rattle.kinds.specs.ListedOptions.{listed};
+ghost use Rattle.kinds.specs.FlexibleOptions.{flexible};
 ghost use Rattle.book.specs.RunLaws.{Runs-right, Nets-add-up};
 ghost use Rattle.book.specs.Examples.{Examples-hold};
 use kinds::Kind;
@@ -91,6 +93,34 @@ pub(crate) fn nets_add_up<K: Kind>() -> u8
 // The worked examples.
 pub(crate) fn examples_hold() -> u8
     ensures { λ _. ⌜ Examples-hold ⌝ }
+{
+    0
+}
+
+// Price 0, which the circular leaves out, never raises the figure of a listed book.
+pub(crate) fn zero_never_raises_listed() -> u8
+    ensures { λ _. ⌜ Zero-never-raises listed ⌝ }
+{
+    0
+}
+
+// Nor that of a flexible one.
+pub(crate) fn zero_never_raises_flexible() -> u8
+    ensures { λ _. ⌜ Zero-never-raises flexible ⌝ }
+{
+    0
+}
+
+// The circular's minimum margin, in its own steps, is the least that covers every whole price.
+pub(crate) fn circular_minimum() -> u8
+    ensures { λ _. ⌜ Circular-minimum ⌝ }
+{
+    0
+}
+
+// Its required margin is the least that also covers every scenario.
+pub(crate) fn circular_required() -> u8
+    ensures { λ _. ⌜ Circular-required ⌝ }
 {
     0
 }

@@ -1,10 +1,9 @@
-use mathlib.Core.Path.{_≡_, refl, sym, ap, _∙_}
+use mathlib.Core.Path.{_≡_, ap, _∙_}
 use Prim.Native.Nat.{ℕ, _*_, _≤_}
 use native.Mathlib.Omega.{arith}
 use lib.IntN.{ℤ, pos, negsuc, _*ℤ_, _-ℤ_, negℤ, natAbs}
 use mir.Syntax.{w64}
-use mir.Val.{toZ, ofZ, SFits}
-use borrow.Author.Needs.{needs}
+use mir.Val.{toZ}
 use borrow.Author.Differences.{ints}
 use Rattle.std.specs.Numbers.{saturated}
 use Rattle.std.proofs.shelf.Signed.{toZ-ofZ, toZ-pos}

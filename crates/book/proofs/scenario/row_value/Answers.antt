@@ -1,16 +1,14 @@
 use mathlib.Core.Path.{_≡_, sym, ap, ap₂, subst, _∙_}
-use Prim.Native.Nat.{ℕ, _≤_, _*_, _+_}
+use Prim.Native.Nat.{_≤_, _+_}
 use native.Mathlib.Nat.{mul-le-mul-right}
 use native.Mathlib.Omega.{arith}
 use lib.IntN.{ℤ, pos, _+ℤ_, _*ℤ_, natAbs}
-use lib.ListN.{length, take, getD}
+use lib.ListN.{take, getD}
 use lib.Seq.{take-all}
 use mir.Syntax.{w32, w64}
 use mir.Val.{SFits, toZ, ofZ}
 use borrow.Author.Differences.{ints}
 use Rattle.std.proofs.shelf.Signed.{toZ-ofZ}
-use Rattle.book.specs.declared.position.Position.{Position}
-use Rattle.book.specs.Losses.{gross}
 use Rattle.book.specs.Scenarios.{row-value}
 use Rattle.book.proofs.ValueBounds.{gross-take, net-small, small-fits}
 use Rattle.book.proofs.ScenarioRows.{row-more, row-most}

@@ -1,13 +1,12 @@
-use mathlib.Core.Path.{_≡_, refl, sym, ap, ap₂, _∙_}
+use mathlib.Core.Path.{_≡_, sym, ap, ap₂, _∙_}
 use mathlib.Core.List.{List}
 use Prim.Native.Nat.{ℕ, suc, _+_, _-_, _*_, _≤_, _<_, max}
 use native.Mathlib.Nat.{add-mul, mul-le-mul-right, le-refl}
 use native.Mathlib.Omega.{arith}
 use lib.IntN.{ℤ, pos, natAbs, negℤ, _*ℤ_}
-use lib.ListN.{length, take, drop, getD}
+use lib.ListN.{length, take, getD}
 use lib.Seq.{take-all}
 use mir.Syntax.{w64}
-use mir.Val.{toZ, ofZ}
 use borrow.Author.Differences.{ints}
 use Rattle.std.proofs.shelf.Signed.{toZ-ofZ}
 use Rattle.book.specs.declared.position.Position.{Position}

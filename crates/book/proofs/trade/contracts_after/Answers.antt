@@ -1,5 +1,5 @@
-use mathlib.Core.Path.{_≡_, sym, ap, ap₂, _∙_}
-use Prim.Native.Nat.{_+_, _≤_}
+use mathlib.Core.Path.{_≡_, ap, ap₂, _∙_}
+use Prim.Native.Nat.{_≤_}
 use native.Mathlib.Omega.{arith}
 use lib.IntN.{ℤ, natAbs, _+ℤ_}
 use mir.Syntax.{w32}
@@ -7,10 +7,8 @@ use mir.Val.{SFits, toZ, ofZ}
 use Rattle.std.proofs.shelf.Signed.{toZ-ofZ}
 use lib.ListN.{getD}
 use borrow.Author.Differences.{ints}
-use borrow.Author.Needs.{needs}
 use Rattle.std.proofs.shelf.Lists.{getD-default}
 use Rattle.book.specs.declared.position.Position.{Position}
-use Rattle.book.specs.Losses.{gross}
 use Rattle.book.proofs.ValueBounds.{net-most}
 use Rattle.book.proofs.TradedLists.{gross-at}
 use Rattle.book.proofs.trade.contracts_after.Needs as need

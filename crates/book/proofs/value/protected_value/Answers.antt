@@ -1,16 +1,15 @@
 use mathlib.Core.Path.{_≡_, sym, ap, ap₂, subst, _∙_}
-use Prim.Native.Nat.{ℕ, _≤_, _*_, _+_}
+use Prim.Native.Nat.{_≤_, _*_, _+_}
 use native.Mathlib.Nat.{add-mul, mul-le-mul-right}
 use native.Mathlib.Omega.{arith}
-use lib.IntN.{ℤ, pos, _+ℤ_, natAbs}
+use lib.IntN.{ℤ, _+ℤ_, natAbs}
 use lib.ListN.{take}
 use lib.Seq.{take-all}
 use mir.Syntax.{w64}
 use mir.Val.{SFits, toZ, ofZ}
 use borrow.Author.Differences.{ints}
-use borrow.Author.Needs.{needs}
 use Rattle.std.proofs.shelf.Signed.{toZ-ofZ}
-use Rattle.book.specs.Losses.{value, worth, gross}
+use Rattle.book.specs.Losses.{value, gross}
 use Rattle.book.proofs.ValueBounds.{value-more, gross-more, gross-take, net-most, small-fits, item-fits}
 use Rattle.book.proofs.value.protected_value.Given as given
 use Rattle.book.proofs.value.protected_value.Needs as need

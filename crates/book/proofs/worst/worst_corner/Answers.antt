@@ -1,4 +1,4 @@
-use mathlib.Core.Path.{_≡_, sym, ap, subst}
+use mathlib.Core.Path.{sym, ap, subst}
 use mathlib.Core.List.{[], _∷_}
 use Rattle.kinds.specs.CornerPrices.{prices}
 use Rattle.book.specs.Losses.{lost}

@@ -1,5 +1,4 @@
-use mathlib.Core.Path.{_≡_, refl, sym, ap, ap₂, subst, _∙_}
-use mathlib.Core.Bool.{true}
+use mathlib.Core.Path.{_≡_, sym, ap, ap₂, subst, _∙_}
 use mathlib.Core.Logic.{⊎-elim}
 use Rattle.std.proofs.shelf.Tests.{cases-lt}
 use mathlib.Core.List.{List}
@@ -10,9 +9,7 @@ use lib.ListN.{length, getD, set}
 use mir.Syntax.{w32}
 use mir.Val.{SFits, toZ, ofZ}
 use borrow.Author.Differences.{ints}
-use borrow.Author.Needs.{needs}
 use Rattle.std.specs.Of.Vec.{vec-items}
-use Rattle.std.specs.Holes.{removed}
 use Rattle.std.proofs.shelf.Signed.{toZ-ofZ}
 use Rattle.std.proofs.shelf.Lists.{getD-default}
 use Rattle.book.specs.declared.position.Position.{Position}

@@ -1,4 +1,4 @@
-use mathlib.Core.Path.{_≡_, sym, subst}
+use mathlib.Core.Path.{sym, subst}
 use Rattle.std.specs.Of.Vec.{vec-items}
 use Rattle.book.specs.Losses.{loss, Sound}
 use Rattle.book.specs.Markets.{variation-of, price-unit}

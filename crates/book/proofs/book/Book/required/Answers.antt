@@ -1,16 +1,16 @@
 use mathlib.Core.Path.{_≡_, sym, ap, ap₂, subst, _∙_}
-use mathlib.Core.Bool.{true, false, not, cond}
-use Prim.Native.Nat.{ℕ, _*_, _≤_, max}
+use mathlib.Core.Bool.{not, cond}
+use Prim.Native.Nat.{_*_, max}
 use native.Mathlib.Omega.{arith}
 use lib.Dec.{eqb, ltb}
 use lib.ListN.{length}
 use Rattle.std.specs.Of.Vec.{vec-items}
 use Rattle.std.specs.Options.{mapped}
-use Rattle.std.specs.declared.option.Option.the-variants.{Some, None}
+use Rattle.std.specs.declared.option.Option.the-variants.{Some}
 use Rattle.std.proofs.shelf.Tests.{or-from, le-ltb, eq-eqb}
 use Rattle.book.specs.declared.refusal.Refusal.the-variants.{Scenarios, TableLength, ScenarioValue}
 use Rattle.book.specs.Losses.{loss, gross}
-use Rattle.book.specs.Markets.{outside, variation-of, price-unit, value-unit}
+use Rattle.book.specs.Markets.{variation-of, price-unit, value-unit}
 use Rattle.book.specs.Prices.{Least, Covers-both}
 use Rattle.book.specs.Scenarios.{scenario-losses, greatest, first-above}
 use Rattle.book.proofs.MarketFacts.{right, unit-low, stressed-most}

@@ -1,4 +1,4 @@
-use mathlib.Core.Path.{_≡_, refl, sym, ap, ap₂, subst, _∙_}
+use mathlib.Core.Path.{_≡_, refl, sym, ap, subst, _∙_}
 use mathlib.Core.Bool.{true, false}
 use mathlib.Core.List.{List, [], _∷_, _++_}
 use Prim.Native.Nat.{ℕ, zero, suc, _≤_, _<_}
@@ -8,9 +8,7 @@ use lib.IntN.{ℤ, pos, negsuc, natAbs}
 use Rattle.kinds.specs.Kinds.{Meaning}
 use lib.ListN.{length, getD, take}
 use mir.Syntax.{w32}
-use mir.Val.{toZ, ofZ}
-use borrow.Author.Differences.{ints}
-use borrow.Author.Needs.{needs}
+use mir.Val.{ofZ}
 use Rattle.std.specs.Of.Vec.{vec-items}
 use Rattle.std.specs.shelf.Lists.{All}
 use Rattle.std.proofs.shelf.Lists.{getD-default}
