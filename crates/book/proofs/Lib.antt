@@ -9,6 +9,7 @@ pub mod ValueBounds
 pub mod CornerFormula
 pub mod PriceZero
 pub mod CircularMargins
+pub mod JoinedLines
 pub mod MarketFacts
 pub mod TradedLists
 pub mod EndRefusals

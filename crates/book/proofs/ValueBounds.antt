@@ -9,8 +9,8 @@ use lib.IntN.{ℤ, pos, negsuc, _+ℤ_, _*ℤ_, natAbs}
 use lib.Signed.{_≤ℤ_, _<ℤ_}
 use lib.ListN.{length, take, getD}
 use borrow.Author.Differences.{ints}
-use mir.Syntax.{w64}
-use mir.Val.{SFits}
+use mir.Syntax.{w32, w64}
+use mir.Val.{SFits, toZ, ofZ}
 use Rattle.std.proofs.shelf.Lists.{take-more}
 use Rattle.std.proofs.shelf.Elements.{all-getD}
 use Rattle.book.specs.declared.position.Position.{Position}
@@ -81,3 +81,7 @@ module _ {C : Type 0} where
   -- a position of the book fits
   pub item-fits : (K : Meaning C) (v u : ℕ) (ps : List (Position C)) (i : ℕ) (p : Position C) → i < length ps → p ≡ getD ps i p → Fitting K v u ps → K .fits (p .contract) v u ≡ true
   item-fits K v u ps i p l e f = rw e (all-getD (λ q. K .fits (q .contract) v u ≡ true) ps i p l f)
+
+-- a net quantity of a book goes through 32 bits unchanged
+pub same-net : (z : ℤ) → natAbs z ≤ 10000 → toZ w32 (ofZ w32 z) ≡ z
+same-net z h = omega (arith, ints)

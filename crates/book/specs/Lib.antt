@@ -10,3 +10,4 @@ pub mod Examples
 pub mod Runs
 pub mod RunLaws
 pub mod CircularSteps
+pub mod SheetTexts

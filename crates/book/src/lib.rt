@@ -21,3 +21,4 @@ mod trade;
 mod unfit;
 mod value;
 mod worst;
+mod write_sheet;

@@ -1,22 +1,19 @@
 use mathlib.Core.Path.{_≡_, sym, ap, ap₂, subst, _∙_}
-use Prim.Native.Nat.{_≤_, _+_}
+use Prim.Native.Nat.{_+_}
 use native.Mathlib.Nat.{mul-le-mul-right}
 use native.Mathlib.Omega.{arith}
 use lib.IntN.{ℤ, pos, _+ℤ_, _*ℤ_, natAbs}
 use lib.ListN.{take, getD}
 use lib.Seq.{take-all}
-use mir.Syntax.{w32, w64}
+use mir.Syntax.{w64}
 use mir.Val.{SFits, toZ, ofZ}
 use borrow.Author.Differences.{ints}
 use Rattle.std.proofs.shelf.Signed.{toZ-ofZ}
 use Rattle.book.specs.Scenarios.{row-value}
-use Rattle.book.proofs.ValueBounds.{gross-take, net-small, small-fits}
+use Rattle.book.proofs.ValueBounds.{gross-take, net-small, same-net, small-fits}
 use Rattle.book.proofs.ScenarioRows.{row-more, row-most}
 use Rattle.book.proofs.scenario.row_value.Given as given
 use Rattle.book.proofs.scenario.row_value.Needs as need
-
-same-net : (z : ℤ) → natAbs z ≤ 10000 → toZ w32 (ofZ w32 z) ≡ z
-same-net z h = omega (arith, ints)
 
 pub times-sum-requires : need.times-sum-requires
 times-sum-requires g c κs =

@@ -1,0 +1,15 @@
+use mathlib.Core.Path.{_≡_}
+use mathlib.Core.List.{_++_}
+use Prim.Native.Nat.{_+_, _≤_}
+use lib.ListN.{length, take, drop}
+use Rattle.std.specs.Of.Vec.{vec-len}
+use Rattle.book.specs.SheetTexts.{sheet-lines}
+use Rattle.book.specs.Tallies.{tally-of}
+use Rattle.book.proofs.JoinedLines.{text}
+use Rattle.book.proofs.book.Book.write.Given as given
+
+abbrev pub Inv-loop-i : given.InvT-loop-i
+Inv-loop-i g l =
+    (l .i ≤ 7 + vec-len (l .self .positions))
+    × (l .at ≡ length (text (take (l .i) (sheet-lines (g .K·Stored .stored) (tally-of (l .self))))))
+    × (l .out ≡ text (take (l .i) (sheet-lines (g .K·Stored .stored) (tally-of (l .self)))) ++ drop (l .at) (l .entry .out))
