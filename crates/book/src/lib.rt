@@ -1,4 +1,6 @@
 // Books of options: opening, sheets, trades, market changes, both margins, and runs of calls.
+#![tactic(auto)]
+
 mod ask;
 mod book;
 mod call;

@@ -1,4 +1,6 @@
 // The three example portfolios of BM&F circular 134/2006-DG, valued at the prices of its tables 4.5, 4.8 and 4.11.
+#![tactic(auto)]
+
 mod amount;
 mod portfolio;
 mod table;

@@ -1,4 +1,6 @@
 // The margins that a book replies for the three example portfolios of BM&F circular 134/2006-DG, beside those that the circular prints.
+#![tactic(auto)]
+
 mod amount;
 mod margins;
 mod portfolio;

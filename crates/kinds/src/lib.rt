@@ -1,4 +1,6 @@
 // The kinds of contract that a book can hold: what a book may ask of a contract, and the listed and the flexible option.
+#![tactic(auto)]
+
 mod contract_refusal;
 mod corners;
 mod flexible;

@@ -1,4 +1,6 @@
 // The text layer of sheets: bytes become fields with their places, typed lines and faults, and contracts become lines.
+#![tactic(auto)]
+
 mod cut;
 mod fault;
 mod field;

@@ -1,4 +1,6 @@
 // Tests of the sheet's text layer: every doubtful shape of a line, in one table, and lines written and read back.
+#![tactic(auto)]
+
 use kinds::{Flexible, Listed};
 use sheet::{Fault, Reader, Word};
 

@@ -1,4 +1,6 @@
 // Asks a book of options for its margins many times, so that the questions can be timed.
+#![tactic(auto)]
+
 mod asked;
 mod example;
 mod sizes;

@@ -12,8 +12,8 @@ use Rattle.book.proofs.SheetHeads.{end_told}
 use Rattle.book.proofs.ValueBounds.{same_net}
 use Rattle.book.proofs.check_sheet.check_positions.Goals as goal
 
-pub returns-in-err-position : goal.returns-in-err-position
-returns-in-err-position g c =
+pub returns-in_err-position : goal.returns-in_err-position
+returns-in_err-position g c =
     let K = g.K.Kind.means in
     let s = g.K.Stored.stored in
     let m = c.args.market.now in
@@ -24,11 +24,11 @@ returns-in-err-position g c =
     let bs = unread c.loop.reader in
     let left : c.args.count - i ≡ suc n = omega (arith, c.loop-test.true) in
     let here = c.loop.invariant.2 ∙ ap (λ k. positions_fault K s m k line above bs) left in
-    let r = handed_on c.from-residual.result c.in-err-position.field-0.0 c.from-residual.ensures.1 in
+    let r = handed_on c.from_residual.result c.in_err-position.field-0.0 c.from_residual.ensures.1 in
     record {
-      same = c.in-err-position.ensures.same ∙ c.loop.invariant.0;
+      same = c.in_err-position.ensures.same ∙ c.loop.invariant.0;
       room = c.loop.invariant.6 ∙ c.clear.ensures.capacity;
-      told = subst (Checked _) (sym r) (here ∙ line_stops K s m n line above bs _ c.in-err-position.ensures.told);
+      told = subst (Checked _) (sym r) (here ∙ line_stops K s m n line above bs _ c.in_err-position.ensures.told);
     }
 
 pub returns-in-Some : goal.returns-in-Some
@@ -43,8 +43,8 @@ returns-in-Some g c =
     let bs = unread c.loop.reader in
     let left : c.args.count - i ≡ suc n = omega (arith, c.loop-test.true) in
     let here = c.loop.invariant.2 ∙ ap (λ k. positions_fault K s m k line above bs) left in
-    let p = c.in-ok-position.position in
-    let t = c.in-ok-position.ensures in
+    let p = c.in_ok-position.position in
+    let t = c.in_ok-position.ensures in
     let same_line : line ≡ c.line-line.result = omega (arith, c.line-line.ensures) in
     record {
       same = t.same ∙ c.loop.invariant.0;
@@ -64,11 +64,11 @@ returns-then-contracts-gt10000 g c =
     let bs = unread c.loop.reader in
     let left : c.args.count - i ≡ suc n = omega (arith, c.loop-test.true) in
     let here = c.loop.invariant.2 ∙ ap (λ k. positions_fault K s m k line above bs) left in
-    let p = c.in-ok-position.position in
-    let t = c.in-ok-position.ensures in
+    let p = c.in_ok-position.position in
+    let t = c.in_ok-position.ensures in
     let same_line : line ≡ c.line-line.result = omega (arith, c.line-line.ensures) in
-    let own : own_fault K s m line p ≡ None = ap (λ l. own_fault K s m l p) same_line ∙ sym c.own_fault.ensures ∙ c.in-default.is in
-    let size : c.unsigned-abs-contracts.result ≡ nat_abs p.net = c.unsigned-abs-contracts.ensures.value ∙ ap nat_abs (same_net p.net (own_most K s m line p own)) in
+    let own : own_fault K s m line p ≡ None = ap (λ l. own_fault K s m l p) same_line ∙ sym c.own_fault.ensures ∙ c.in_default.is in
+    let size : c.unsigned_abs-contracts.result ≡ nat_abs p.net = c.unsigned_abs-contracts.ensures.value ∙ ap nat_abs (same_net p.net (own_most K s m line p own)) in
     let over : 10000 < gross above + nat_abs p.net = omega (arith, c.if-contracts-gt10000.true, c.loop.invariant.3, size) in
     record {
       same = t.same ∙ c.loop.invariant.0;
@@ -88,22 +88,22 @@ returns-then-named g c =
     let bs = unread c.loop.reader in
     let left : c.args.count - i ≡ suc n = omega (arith, c.loop-test.true) in
     let here = c.loop.invariant.2 ∙ ap (λ k. positions_fault K s m k line above bs) left in
-    let p = c.in-ok-position.position in
-    let t = c.in-ok-position.ensures in
+    let p = c.in_ok-position.position in
+    let t = c.in_ok-position.ensures in
     let same_line : line ≡ c.line-line.result = omega (arith, c.line-line.ensures) in
-    let own : own_fault K s m line p ≡ None = ap (λ l. own_fault K s m l p) same_line ∙ sym c.own_fault.ensures ∙ c.in-default.is in
-    let size : c.unsigned-abs-contracts.result ≡ nat_abs p.net = c.unsigned-abs-contracts.ensures.value ∙ ap nat_abs (same_net p.net (own_most K s m line p own)) in
+    let own : own_fault K s m line p ≡ None = ap (λ l. own_fault K s m l p) same_line ∙ sym c.own_fault.ensures ∙ c.in_default.is in
+    let size : c.unsigned_abs-contracts.result ≡ nat_abs p.net = c.unsigned_abs-contracts.ensures.value ∙ ap nat_abs (same_net p.net (own_most K s m line p own)) in
     let few : gross above + nat_abs p.net ≤ 10000 = omega (arith, c.if-contracts-gt10000.false, c.loop.invariant.3, size) in
     let seen : vec_items c.loop.seen ≡ map (λ q. q.contract) above = c.loop.invariant.5 in
-    let twice : named_in K p.contract above ≡ true = sym (among_in K p.contract above) ∙ ap (named_among K p.contract) (sym seen) ∙ ap (named_among K p.contract) (sym c.as-slice.ensures.value) ∙ sym c.named.ensures ∙ c.if-named.true in
+    let twice : named_in K p.contract above ≡ true = sym (among_in K p.contract above) ∙ ap (named_among K p.contract) (sym seen) ∙ ap (named_among K p.contract) (sym c.as_slice.ensures.value) ∙ sym c.named.ensures ∙ c.if-named.true in
     record {
       same = t.same ∙ c.loop.invariant.0;
       room = c.loop.invariant.6 ∙ c.clear.ensures.capacity;
       told = here ∙ above_stops K s m n line above bs p t.told.0 t.told.1 _ own (not_too_many K line above p true few twice) ∙ ap (λ l. Some (fault.Book l book_cause.NamedTwice)) same_line;
     }
 
-pub push-reserved-requires : goal.push-reserved-requires
-push-reserved-requires g c =
+pub push_reserved-requires : goal.push_reserved-requires
+push_reserved-requires g c =
     let s = g.K.Stored.stored in
     let b0 = unread c.args.reader.now in
     let i = c.loop.counter in
@@ -122,26 +122,26 @@ loop-preserved g c =
     let bs = unread c.loop.reader in
     let left : c.args.count - i ≡ suc n = omega (arith, c.loop-test.true) in
     let here = c.loop.invariant.2 ∙ ap (λ k. positions_fault K s m k line above bs) left in
-    let p = c.in-ok-position.position in
-    let t = c.in-ok-position.ensures in
+    let p = c.in_ok-position.position in
+    let t = c.in_ok-position.ensures in
     let same_line : line ≡ c.line-line.result = omega (arith, c.line-line.ensures) in
-    let own : own_fault K s m line p ≡ None = ap (λ l. own_fault K s m l p) same_line ∙ sym c.own_fault.ensures ∙ c.in-default.is in
-    let size : c.unsigned-abs-contracts.result ≡ nat_abs p.net = c.unsigned-abs-contracts.ensures.value ∙ ap nat_abs (same_net p.net (own_most K s m line p own)) in
+    let own : own_fault K s m line p ≡ None = ap (λ l. own_fault K s m l p) same_line ∙ sym c.own_fault.ensures ∙ c.in_default.is in
+    let size : c.unsigned_abs-contracts.result ≡ nat_abs p.net = c.unsigned_abs-contracts.ensures.value ∙ ap nat_abs (same_net p.net (own_most K s m line p own)) in
     let few : gross above + nat_abs p.net ≤ 10000 = omega (arith, c.if-contracts-gt10000.false, c.loop.invariant.3, size) in
     let seen : vec_items c.loop.seen ≡ map (λ q. q.contract) above = c.loop.invariant.5 in
-    let once : named_in K p.contract above ≡ false = sym (among_in K p.contract above) ∙ ap (named_among K p.contract) (sym seen) ∙ ap (named_among K p.contract) (sym c.as-slice.ensures.value) ∙ sym c.named.ensures ∙ c.if-named.false in
+    let once : named_in K p.contract above ≡ false = sym (among_in K p.contract above) ∙ ap (named_among K p.contract) (sym seen) ∙ ap (named_among K p.contract) (sym c.as_slice.ensures.value) ∙ sym c.named.ensures ∙ c.if-named.false in
     let more : positions_told s (i + 1) b0 ≡ above ++ p ∷ [] = ap (λ k. positions_told s k b0) (let e : i + 1 ≡ suc i = omega arith in e) ∙ told_more s i b0 ∙ ap (λ b. above ++ option_to_list (position_told s b)) (sym c.loop.invariant.1) ∙ ap (λ o. above ++ option_to_list o) t.told.1 in
-    let on : unread c.read-position.new.reader ≡ after_lines (i + 1) b0 = t.told.2 ∙ ap (λ b. past (after 10 b)) c.loop.invariant.1 ∙ sym (after_more i b0) ∙ ap (λ k. after_lines k b0) (let e : suc i ≡ i + 1 = omega arith in e) in
+    let on : unread c.read_position.new.reader ≡ after_lines (i + 1) b0 = t.told.2 ∙ ap (λ b. past (after 10 b)) c.loop.invariant.1 ∙ sym (after_more i b0) ∙ ap (λ k. after_lines k b0) (let e : suc i ≡ i + 1 = omega arith in e) in
     let pass = position_passes K s m n line above bs p t.told.0 t.told.1 own (not_too_many K line above p false few once) in
-    let then : positions_fault K s m n (suc line) (above ++ p ∷ []) (past (after 10 bs)) ≡ positions_fault K s m n (suc c.read-position.new.reader.lines) (positions_told s (i + 1) b0) (unread c.read-position.new.reader) =
-    ap₂ (λ l b. positions_fault K s m n (suc l) (above ++ p ∷ []) b) (sym t.told.3) (sym t.told.2) ∙ ap (λ ps. positions_fault K s m n (suc c.read-position.new.reader.lines) ps (unread c.read-position.new.reader)) (sym more) in (
+    let then : positions_fault K s m n (suc line) (above ++ p ∷ []) (past (after 10 bs)) ≡ positions_fault K s m n (suc c.read_position.new.reader.lines) (positions_told s (i + 1) b0) (unread c.read_position.new.reader) =
+    ap₂ (λ l b. positions_fault K s m n (suc l) (above ++ p ∷ []) b) (sym t.told.3) (sym t.told.2) ∙ ap (λ ps. positions_fault K s m n (suc c.read_position.new.reader.lines) ps (unread c.read_position.new.reader)) (sym more) in (
       t.same ∙ c.loop.invariant.0,
       on,
       here ∙ pass ∙ then,
       omega (arith, c.loop.invariant.3, size, gross_more above p, ap gross more),
       omega (arith, c.if-contracts-gt10000.false),
-      c.push-reserved.ensures.items ∙ ap (λ cs. cs ++ p.contract ∷ []) seen ∙ sym (contracts_more above p) ∙ ap (map (λ q. q.contract)) (sym more),
-      c.push-reserved.ensures.capacity ∙ c.loop.invariant.6,
+      c.push_reserved.ensures.items ∙ ap (λ cs. cs ++ p.contract ∷ []) seen ∙ sym (contracts_more above p) ∙ ap (map (λ q. q.contract)) (sym more),
+      c.push_reserved.ensures.capacity ∙ c.loop.invariant.6,
     )
 
 pub returns : goal.returns

@@ -8,7 +8,7 @@ loop-position-preserved g c =
     let ps = c.args.positions.now in
     let i = c.loop-position.position-index in
     let x = c.position-item.result in
-    let v : c.unsigned-abs-sum.result ≡ nat_abs x.net = search rules in
+    let v : c.unsigned_abs-sum.result ≡ nat_abs x.net = search rules in
     let e = ap gross (drop_more ps i x c.loop-position-test.true ∙ ap (λ y. y ∷ drop (i + 1) ps) (sym c.position-item.is)) in
     omega (arith, c.loop-position.invariant, v, e)
 

@@ -20,7 +20,7 @@ negated v p m s r u q a t b h =
 
 pub returns : goal.returns
 returns c = λ h.
-    let o = c.saturating-sub.type-inv in
-    let k = c.saturating-mul.type-inv in
-    to_z-of_z w64 c.saturating-sub.result (omega (arith, ints))
-    ∙ negated c.args.value (to_z w64 c.args.unit) c.saturating-mul.result _ c.saturating-sub.result c.args.unit (to_z_pos w64 c.args.unit (omega (arith, c.requires))) (c.saturating-mul.ensures ∙ ap (λ z. saturate_to_bits 63 (z *ℤ to_z w64 c.args.unit)) (to_z-of_z w64 c.args.value c.ranges.value)) (to_z-of_z w64 c.saturating-mul.result (omega (arith, ints))) c.saturating-sub.ensures h
+    let o = c.saturating_sub.type_inv in
+    let k = c.saturating_mul.type_inv in
+    to_z-of_z w64 c.saturating_sub.result (omega (arith, ints))
+    ∙ negated c.args.value (to_z w64 c.args.unit) c.saturating_mul.result _ c.saturating_sub.result c.args.unit (to_z_pos w64 c.args.unit (omega (arith, c.requires))) (c.saturating_mul.ensures ∙ ap (λ z. saturate_to_bits 63 (z *ℤ to_z w64 c.args.unit)) (to_z-of_z w64 c.args.value c.ranges.value)) (to_z-of_z w64 c.saturating_mul.result (omega (arith, ints))) c.saturating_sub.ensures h

@@ -14,8 +14,8 @@ use Rattle.book.proofs.SearchSteps.{worst_scaled}
 use Rattle.book.proofs.ValueBounds.{value_most}
 use Rattle.book.proofs.margin.minimum_margin.Goals as goal
 
-pub exact-loss-loss-requires : goal.exact-loss-loss-requires
-exact-loss-loss-requires g c =
+pub exact_loss-loss-requires : goal.exact_loss-loss-requires
+exact_loss-loss-requires g c =
     let m = c.args.market.now in
     omega (arith, c.price_unit.ensures, unit_low m (right m c.requires.right))
 
@@ -35,12 +35,12 @@ returns-then-loss-gt0 g c = λ s.
     let m = c.args.market.now in
     let ps = c.args.positions.now in
     let r = right m c.requires.right in
-    let found = c.worst-price-found.result in
-    let w = subst (λ v. Finds K v m.ceiling ps found × Worst (lost K v ps) found.price) c.variation.ensures (c.worst-price-found.ensures m.ceiling (subst (λ v. Sound K v m.ceiling ps) (sym c.variation.ensures) s)) in
+    let found = c.worst_price-found.result in
+    let w = subst (λ v. Finds K v m.ceiling ps found × Worst (lost K v ps) found.price) c.variation.ensures (c.worst_price-found.ensures m.ceiling (subst (λ v. Sound K v m.ceiling ps) (sym c.variation.ensures) s)) in
     let f : SFits w64 found.gain = search rules in
-    let z = found_loss K g.met.K.Kind.lawful m r ps c.requires.few s.fitting found w.0 _ _ _ (to_z-of_z w64 found.gain f) c.price_unit.ensures c.exact-loss-loss.ensures in
-    let o = c.exact-loss-loss.type-inv in
-    let y = to_z-of_z w64 c.exact-loss-loss.result (omega (arith, ints)) in
+    let z = found_loss K g.met.K.Kind.lawful m r ps c.requires.few s.fitting found w.0 _ _ _ (to_z-of_z w64 found.gain f) c.price_unit.ensures c.exact_loss-loss.ensures in
+    let o = c.exact_loss-loss.type_inv in
+    let y = to_z-of_z w64 c.exact_loss-loss.result (omega (arith, ints)) in
     let t = c.if-loss-gt0.true in
     let l = loss K (variation_of m) (price_unit m) ps in
     let scaled = worst_scaled (lost K (variation_of m) ps) (price_unit m) found.price (omega (arith, unit_some m r)) w.1 in
@@ -53,12 +53,12 @@ returns-else-loss-gt0 g c = λ s.
     let m = c.args.market.now in
     let ps = c.args.positions.now in
     let r = right m c.requires.right in
-    let found = c.worst-price-found.result in
-    let w = subst (λ v. Finds K v m.ceiling ps found × Worst (lost K v ps) found.price) c.variation.ensures (c.worst-price-found.ensures m.ceiling (subst (λ v. Sound K v m.ceiling ps) (sym c.variation.ensures) s)) in
+    let found = c.worst_price-found.result in
+    let w = subst (λ v. Finds K v m.ceiling ps found × Worst (lost K v ps) found.price) c.variation.ensures (c.worst_price-found.ensures m.ceiling (subst (λ v. Sound K v m.ceiling ps) (sym c.variation.ensures) s)) in
     let f : SFits w64 found.gain = search rules in
-    let z = found_loss K g.met.K.Kind.lawful m r ps c.requires.few s.fitting found w.0 _ _ _ (to_z-of_z w64 found.gain f) c.price_unit.ensures c.exact-loss-loss.ensures in
-    let o = c.exact-loss-loss.type-inv in
-    let y = to_z-of_z w64 c.exact-loss-loss.result (omega (arith, ints)) in
+    let z = found_loss K g.met.K.Kind.lawful m r ps c.requires.few s.fitting found w.0 _ _ _ (to_z-of_z w64 found.gain f) c.price_unit.ensures c.exact_loss-loss.ensures in
+    let o = c.exact_loss-loss.type_inv in
+    let y = to_z-of_z w64 c.exact_loss-loss.result (omega (arith, ints)) in
     let t = c.if-loss-gt0.false in
     let l = loss K (variation_of m) (price_unit m) ps in
     let scaled = worst_scaled (lost K (variation_of m) ps) (price_unit m) found.price (omega (arith, unit_some m r)) w.1 in

@@ -8,87 +8,87 @@ use Rattle.book.specs.SheetReading.{unread, after_lines, malformed, number_fault
 use Rattle.book.proofs.ReadingLines.{handed_on, passes, stops, Gone, goes_on, fault_there, number_passed}
 use Rattle.book.proofs.read_sheet.read_market.Goals as goal
 
-pub returns-in-err-ceiling : goal.returns-in-err-ceiling
-returns-in-err-ceiling c =
+pub returns-in_err-ceiling : goal.returns-in_err-ceiling
+returns-in_err-ceiling c =
     let b0 = unread c.args.reader.now in
-    let head = c.in-ok-read-head.ensures.told in
+    let head = c.in_ok-read_head.ensures.told in
     let start : Gone 0 b0 b0 c.args.reader.now.lines = record { at = refl; count = c.requires } in
     let first = fault_there (λ i x. malformed i (head_forms word.Market) x) 0 b0 b0 _ _ start head.0 in
     let g1 = goes_on 0 b0 b0 _ _ _ start head.2 head.3 in
-    let r = handed_on c.from-residual-in-err-ceiling.result c.in-err-ceiling.field-0.0 c.from-residual-in-err-ceiling.ensures.1 in
-    let stop = fault_there (λ i x. number_fault i 1 1 20000000 x) 1 b0 _ _ _ g1 c.in-err-ceiling.ensures.told in
+    let r = handed_on c.from_residual-in_err-ceiling.result c.in_err-ceiling.field-0.0 c.from_residual-in_err-ceiling.ensures.1 in
+    let stop = fault_there (λ i x. number_fault i 1 1 20000000 x) 1 b0 _ _ _ g1 c.in_err-ceiling.ensures.told in
     record { same = search rules; told = subst (MarketRead b0 _ _) (sym r) (passes _ _ _ first (stops _ _ _ stop)) }
 
-pub returns-in-err-reference : goal.returns-in-err-reference
-returns-in-err-reference c =
+pub returns-in_err-reference : goal.returns-in_err-reference
+returns-in_err-reference c =
     let b0 = unread c.args.reader.now in
-    let head = c.in-ok-read-head.ensures.told in
+    let head = c.in_ok-read_head.ensures.told in
     let start : Gone 0 b0 b0 c.args.reader.now.lines = record { at = refl; count = c.requires } in
     let first = fault_there (λ i x. malformed i (head_forms word.Market) x) 0 b0 b0 _ _ start head.0 in
     let g1 = goes_on 0 b0 b0 _ _ _ start head.2 head.3 in
-    let n1 = number_passed 1 1 1 20000000 _ b0 _ _ _ _ g1 c.in-ok-ceiling.ensures.told in
-    let r = handed_on c.from-residual-in-err-reference.result c.in-err-reference.field-0.0 c.from-residual-in-err-reference.ensures.1 in
-    let stop = fault_there (λ i x. number_fault i 2 1 c.in-ok-ceiling.ceiling x) 2 b0 _ _ _ n1.gone c.in-err-reference.ensures.told in
+    let n1 = number_passed 1 1 1 20000000 _ b0 _ _ _ _ g1 c.in_ok-ceiling.ensures.told in
+    let r = handed_on c.from_residual-in_err-reference.result c.in_err-reference.field-0.0 c.from_residual-in_err-reference.ensures.1 in
+    let stop = fault_there (λ i x. number_fault i 2 1 c.in_ok-ceiling.ceiling x) 2 b0 _ _ _ n1.gone c.in_err-reference.ensures.told in
     let limit = ap (λ u. number_fault 3 2 1 u (after_lines 2 b0)) n1.is in
     record { same = search rules; told = subst (MarketRead b0 _ _) (sym r) (passes _ _ _ first (passes _ _ _ n1.fault (stops _ _ _ (limit ∙ stop)))) }
 
-pub returns-in-err-factor : goal.returns-in-err-factor
-returns-in-err-factor c =
+pub returns-in_err-factor : goal.returns-in_err-factor
+returns-in_err-factor c =
     let b0 = unread c.args.reader.now in
-    let head = c.in-ok-read-head.ensures.told in
+    let head = c.in_ok-read_head.ensures.told in
     let start : Gone 0 b0 b0 c.args.reader.now.lines = record { at = refl; count = c.requires } in
     let first = fault_there (λ i x. malformed i (head_forms word.Market) x) 0 b0 b0 _ _ start head.0 in
     let g1 = goes_on 0 b0 b0 _ _ _ start head.2 head.3 in
-    let n1 = number_passed 1 1 1 20000000 _ b0 _ _ _ _ g1 c.in-ok-ceiling.ensures.told in
-    let n2 = number_passed 2 2 1 c.in-ok-ceiling.ceiling _ b0 _ _ _ _ n1.gone c.in-ok-reference.ensures.told in
+    let n1 = number_passed 1 1 1 20000000 _ b0 _ _ _ _ g1 c.in_ok-ceiling.ensures.told in
+    let n2 = number_passed 2 2 1 c.in_ok-ceiling.ceiling _ b0 _ _ _ _ n1.gone c.in_ok-reference.ensures.told in
     let limit = ap (λ u. number_fault 3 2 1 u (after_lines 2 b0)) n1.is in
-    let r = handed_on c.from-residual-in-err-factor.result c.in-err-factor.field-0.0 c.from-residual-in-err-factor.ensures.1 in
-    let stop = fault_there (λ i x. number_fault i 3 0 10000 x) 3 b0 _ _ _ n2.gone c.in-err-factor.ensures.told in
+    let r = handed_on c.from_residual-in_err-factor.result c.in_err-factor.field-0.0 c.from_residual-in_err-factor.ensures.1 in
+    let stop = fault_there (λ i x. number_fault i 3 0 10000 x) 3 b0 _ _ _ n2.gone c.in_err-factor.ensures.told in
     record { same = search rules; told = subst (MarketRead b0 _ _) (sym r) (passes _ _ _ first (passes _ _ _ n1.fault (passes _ _ _ (limit ∙ n2.fault) (stops _ _ _ stop)))) }
 
-pub returns-in-err-size : goal.returns-in-err-size
-returns-in-err-size c =
+pub returns-in_err-size : goal.returns-in_err-size
+returns-in_err-size c =
     let b0 = unread c.args.reader.now in
-    let head = c.in-ok-read-head.ensures.told in
+    let head = c.in_ok-read_head.ensures.told in
     let start : Gone 0 b0 b0 c.args.reader.now.lines = record { at = refl; count = c.requires } in
     let first = fault_there (λ i x. malformed i (head_forms word.Market) x) 0 b0 b0 _ _ start head.0 in
     let g1 = goes_on 0 b0 b0 _ _ _ start head.2 head.3 in
-    let n1 = number_passed 1 1 1 20000000 _ b0 _ _ _ _ g1 c.in-ok-ceiling.ensures.told in
-    let n2 = number_passed 2 2 1 c.in-ok-ceiling.ceiling _ b0 _ _ _ _ n1.gone c.in-ok-reference.ensures.told in
-    let n3 = number_passed 3 3 0 10000 _ b0 _ _ _ _ n2.gone c.in-ok-factor.ensures.told in
+    let n1 = number_passed 1 1 1 20000000 _ b0 _ _ _ _ g1 c.in_ok-ceiling.ensures.told in
+    let n2 = number_passed 2 2 1 c.in_ok-ceiling.ceiling _ b0 _ _ _ _ n1.gone c.in_ok-reference.ensures.told in
+    let n3 = number_passed 3 3 0 10000 _ b0 _ _ _ _ n2.gone c.in_ok-factor.ensures.told in
     let limit = ap (λ u. number_fault 3 2 1 u (after_lines 2 b0)) n1.is in
-    let r = handed_on c.from-residual-in-err-size.result c.in-err-size.field-0.0 c.from-residual-in-err-size.ensures.1 in
-    let stop = fault_there (λ i x. number_fault i 4 1 1000 x) 4 b0 _ _ _ n3.gone c.in-err-size.ensures.told in
+    let r = handed_on c.from_residual-in_err-size.result c.in_err-size.field-0.0 c.from_residual-in_err-size.ensures.1 in
+    let stop = fault_there (λ i x. number_fault i 4 1 1000 x) 4 b0 _ _ _ n3.gone c.in_err-size.ensures.told in
     record { same = search rules; told = subst (MarketRead b0 _ _) (sym r) (passes _ _ _ first (passes _ _ _ n1.fault (passes _ _ _ (limit ∙ n2.fault) (passes _ _ _ n3.fault (stops _ _ _ stop))))) }
 
-pub returns-in-err-rate : goal.returns-in-err-rate
-returns-in-err-rate c =
+pub returns-in_err-rate : goal.returns-in_err-rate
+returns-in_err-rate c =
     let b0 = unread c.args.reader.now in
-    let head = c.in-ok-read-head.ensures.told in
+    let head = c.in_ok-read_head.ensures.told in
     let start : Gone 0 b0 b0 c.args.reader.now.lines = record { at = refl; count = c.requires } in
     let first = fault_there (λ i x. malformed i (head_forms word.Market) x) 0 b0 b0 _ _ start head.0 in
     let g1 = goes_on 0 b0 b0 _ _ _ start head.2 head.3 in
-    let n1 = number_passed 1 1 1 20000000 _ b0 _ _ _ _ g1 c.in-ok-ceiling.ensures.told in
-    let n2 = number_passed 2 2 1 c.in-ok-ceiling.ceiling _ b0 _ _ _ _ n1.gone c.in-ok-reference.ensures.told in
-    let n3 = number_passed 3 3 0 10000 _ b0 _ _ _ _ n2.gone c.in-ok-factor.ensures.told in
-    let n4 = number_passed 4 4 1 1000 _ b0 _ _ _ _ n3.gone c.in-ok-size.ensures.told in
+    let n1 = number_passed 1 1 1 20000000 _ b0 _ _ _ _ g1 c.in_ok-ceiling.ensures.told in
+    let n2 = number_passed 2 2 1 c.in_ok-ceiling.ceiling _ b0 _ _ _ _ n1.gone c.in_ok-reference.ensures.told in
+    let n3 = number_passed 3 3 0 10000 _ b0 _ _ _ _ n2.gone c.in_ok-factor.ensures.told in
+    let n4 = number_passed 4 4 1 1000 _ b0 _ _ _ _ n3.gone c.in_ok-size.ensures.told in
     let limit = ap (λ u. number_fault 3 2 1 u (after_lines 2 b0)) n1.is in
-    let r = handed_on c.from-residual-in-err-rate.result c.in-err-rate.field-0.0 c.from-residual-in-err-rate.ensures.1 in
-    let stop = fault_there (λ i x. number_fault i 5 1 99999 x) 5 b0 _ _ _ n4.gone c.in-err-rate.ensures.told in
+    let r = handed_on c.from_residual-in_err-rate.result c.in_err-rate.field-0.0 c.from_residual-in_err-rate.ensures.1 in
+    let stop = fault_there (λ i x. number_fault i 5 1 99999 x) 5 b0 _ _ _ n4.gone c.in_err-rate.ensures.told in
     record { same = search rules; told = subst (MarketRead b0 _ _) (sym r) (passes _ _ _ first (passes _ _ _ n1.fault (passes _ _ _ (limit ∙ n2.fault) (passes _ _ _ n3.fault (passes _ _ _ n4.fault (stops _ _ _ stop)))))) }
 
 pub returns-then-from-gt5000000000000 : goal.returns-then-from-gt5000000000000
 returns-then-from-gt5000000000000 c =
     let b0 = unread c.args.reader.now in
-    let head = c.in-ok-read-head.ensures.told in
+    let head = c.in_ok-read_head.ensures.told in
     let start : Gone 0 b0 b0 c.args.reader.now.lines = record { at = refl; count = c.requires } in
     let first = fault_there (λ i x. malformed i (head_forms word.Market) x) 0 b0 b0 _ _ start head.0 in
     let g1 = goes_on 0 b0 b0 _ _ _ start head.2 head.3 in
-    let n1 = number_passed 1 1 1 20000000 _ b0 _ _ _ _ g1 c.in-ok-ceiling.ensures.told in
-    let n2 = number_passed 2 2 1 c.in-ok-ceiling.ceiling _ b0 _ _ _ _ n1.gone c.in-ok-reference.ensures.told in
-    let n3 = number_passed 3 3 0 10000 _ b0 _ _ _ _ n2.gone c.in-ok-factor.ensures.told in
-    let n4 = number_passed 4 4 1 1000 _ b0 _ _ _ _ n3.gone c.in-ok-size.ensures.told in
-    let n5 = number_passed 5 5 1 99999 _ b0 _ _ _ _ n4.gone c.in-ok-rate.ensures.told in
+    let n1 = number_passed 1 1 1 20000000 _ b0 _ _ _ _ g1 c.in_ok-ceiling.ensures.told in
+    let n2 = number_passed 2 2 1 c.in_ok-ceiling.ceiling _ b0 _ _ _ _ n1.gone c.in_ok-reference.ensures.told in
+    let n3 = number_passed 3 3 0 10000 _ b0 _ _ _ _ n2.gone c.in_ok-factor.ensures.told in
+    let n4 = number_passed 4 4 1 1000 _ b0 _ _ _ _ n3.gone c.in_ok-size.ensures.told in
+    let n5 = number_passed 5 5 1 99999 _ b0 _ _ _ _ n4.gone c.in_ok-rate.ensures.told in
     let limit = ap (λ u. number_fault 3 2 1 u (after_lines 2 b0)) n1.is in
     let product : c.from.result * c.from-2.result * c.from-3.result ≡ number_at 1 b0 * number_at 4 b0 * number_at 5 b0 =
     ap₂ (λ x y. x * y) (ap₂ (λ x y. x * y) (c.from.ensures ∙ sym n1.is) (c.from-2.ensures ∙ sym n4.is)) (c.from-3.ensures ∙ sym n5.is) in

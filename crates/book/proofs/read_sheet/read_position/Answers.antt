@@ -13,28 +13,28 @@ use Rattle.book.proofs.read_sheet.read_position.Goals as goal
 kept_net : (z : ℤ) → nat_abs z < 10 ^ 8 → to_z w32 (of_z w32 z) ≡ z
 kept_net z h = omega (arith, ints, (let p : 10 ^ 8 ≡ 100000000 = refl in p))
 
-pub returns-in-default-read : goal.returns-in-default-read
-returns-in-default-read g c =
+pub returns-in_default-read : goal.returns-in_default-read
+returns-in_default-read g c =
     let s = g.K.Stored.stored in
     let bs = unread c.args.reader.now in
-    let e = c.in-ok-fields.ensures.told in
+    let e = c.in_ok-fields.ensures.told in
     let t = line_tells s.limiter_form c.in-Position.fields bs e.1.well (ap (λ l. map (λ f. f.bytes.now) (line_fields l)) (sym c.in-Position.is) ∙ e.2.bytes_are) in
-    absurd (let z : ◌≡◌ {A = ℕ} 0 1 = ap (λ b. cond b 1 0) (ap is_some (sym c.in-default-read.is ∙ c.read.ensures) ∙ g.met.K.Stored.storable.reads_formed _ ∙ t.formed) in omega arith)
+    absurd (let z : ◌≡◌ {A = ℕ} 0 1 = ap (λ b. cond b 1 0) (ap is_some (sym c.in_default-read.is ∙ c.read.ensures) ∙ g.met.K.Stored.storable.reads_formed _ ∙ t.formed) in omega arith)
 
-pub returns-in-default-quantity : goal.returns-in-default-quantity
-returns-in-default-quantity g c =
+pub returns-in_default-quantity : goal.returns-in_default-quantity
+returns-in_default-quantity g c =
     let s = g.K.Stored.stored in
     let bs = unread c.args.reader.now in
-    let e = c.in-ok-fields.ensures.told in
+    let e = c.in_ok-fields.ensures.told in
     let t = line_tells s.limiter_form c.in-Position.fields bs e.1.well (ap (λ l. map (λ f. f.bytes.now) (line_fields l)) (sym c.in-Position.is) ∙ e.2.bytes_are) in
-    absurd (let z : ◌≡◌ {A = ℕ} 0 1 = ap (λ b. cond b 1 0) (ap is_some (sym c.in-default-quantity.is ∙ c.quantity.ensures) ∙ t.quantity_some) in omega arith)
+    absurd (let z : ◌≡◌ {A = ℕ} 0 1 = ap (λ b. cond b 1 0) (ap is_some (sym c.in_default-quantity.is ∙ c.quantity.ensures) ∙ t.quantity_some) in omega arith)
 
 pub returns : goal.returns
 returns g c =
     let s = g.K.Stored.stored in
     let bs = unread c.args.reader.now in
-    let e = c.in-ok-fields.ensures.told in
-    let same = c.in-ok-fields.ensures.same in
+    let e = c.in_ok-fields.ensures.told in
+    let same = c.in_ok-fields.ensures.same in
     let t = line_tells s.limiter_form c.in-Position.fields bs e.1.well (ap (λ l. map (λ f. f.bytes.now) (line_fields l)) (sym c.in-Position.is) ∙ e.2.bytes_are) in
     let net = c.in-Some-quantity.net in
     let written : quantity_of c.in-Position.fields.quantity.bytes.now ≡ Some net = sym c.quantity.ensures ∙ c.in-Some-quantity.is in

@@ -21,7 +21,7 @@ sum_is g c z e =
     let i = c.loop-i.i in
     let x = c.index-positions-i.result in
     let n = net_small ps i x c.loop-i-test.true c.index-positions-i.is c.requires.few in
-    let o = c.times-sum.type-inv in
+    let o = c.times-sum.type_inv in
     let t = to_z-of_z w64 c.times-sum.result (omega (arith, ints)) ∙ c.times-sum.ensures.is ∙ ap (λ y. y *ℤ pos (get_or xs i 0)) (same_net x.net n) in
     ap₂ (λ a b. a +ℤ b) e t ∙ sym (row_more ps xs i x c.loop-i-test.true (omega (arith, c.loop-i-test.true, c.requires.whole)) c.index-positions-i.is)
 
@@ -29,11 +29,11 @@ small : (g : given.Over) (c : goal.After-times-sum g) → SFits w64 (row_value (
 small g c =
     let ps = c.args.positions.now in
     let i = c.loop-i.i + 1 in
-    let most = row_most i ps c.args.row.now 4294967295 (λ k. let f = c.type-inv.row k in omega (arith, f.fits)) in
+    let most = row_most i ps c.args.row.now 4294967295 (λ k. let f = c.type_inv.row k in omega (arith, f.fits)) in
     small_fits (row_value (take i ps) (take i c.args.row.now)) (omega (arith, most, mul-le-mul_right 4294967295 (gross_take i ps), mul-le-mul_right 4294967295 c.requires.few))
 
-pub overflow-add-sum : goal.overflow-add-sum
-overflow-add-sum g c = subst (SFits w64) (sym (sum_is g c _ c.loop-i.invariant.1)) (small g c)
+pub overflow_add-sum : goal.overflow_add-sum
+overflow_add-sum g c = subst (SFits w64) (sym (sum_is g c _ c.loop-i.invariant.1)) (small g c)
 
 pub loop-i-preserved : goal.loop-i-preserved
 loop-i-preserved g c = (

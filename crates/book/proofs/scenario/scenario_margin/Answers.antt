@@ -25,8 +25,8 @@ row_size ps rest row limit unit few values e low =
     let a : nat_abs (row_value ps row) ≤ 10000 * limit = omega (arith, most, same, g, mul-le-mul_right limit few) in
     omega (arith, mul-le-mul_right unit a, low)
 
-pub split-at-requires : goal.split-at-requires
-split-at-requires g c =
+pub split_at-requires : goal.split_at-requires
+split_at-requires g c =
     omega (arith, c.loop-i.invariant.0, left c.args.scenarios c.loop-i.i (length c.args.positions.now) c.loop-i-test.true)
 
 pub loop-i-preserved : goal.loop-i-preserved
@@ -35,19 +35,19 @@ loop-i-preserved g c =
     let n = length ps in
     let unit = c.args.unit in
     let rest = c.loop-i.rest.now in
-    let row = c.split-at.result.0.now in
+    let row = c.split_at.result.0.now in
     let s = c.args.scenarios in
     let i = c.loop-i.i in
     let next : s - i ≡ suc (s - (i + 1)) = omega (arith, c.loop-i-test.true) in
-    let o = c.row_value.type-inv in
-    let x = c.exact-loss.type-inv in
+    let o = c.row_value.type_inv in
+    let x = c.exact_loss.type_inv in
     let value = to_z-of_z w64 c.row_value.result (omega (arith, ints)) ∙ c.row_value.ensures in
-    let low = row_size ps rest row c.args.limit unit c.requires.few c.loop-i.invariant.1 c.split-at.ensures.front c.requires.low in
-    let loss = to_z-of_z w64 c.exact-loss.result (omega (arith, ints)) ∙ c.exact-loss.ensures (omega (arith, ap (λ z. nat_abs z * unit) value, low)) ∙ ap (λ z. neg_ℤ z *ℤ pos unit) value ∙ ap (scenario_loss unit ps) c.split-at.ensures.front in
+    let low = row_size ps rest row c.args.limit unit c.requires.few c.loop-i.invariant.1 c.split_at.ensures.front c.requires.low in
+    let loss = to_z-of_z w64 c.exact_loss.result (omega (arith, ints)) ∙ c.exact_loss.ensures (omega (arith, ap (λ z. nat_abs z * unit) value, low)) ∙ ap (λ z. neg_ℤ z *ℤ pos unit) value ∙ ap (scenario_loss unit ps) c.split_at.ensures.front in
     let most = c.max-most.ensures ∙ ap (max c.loop-i.most) (c.centavos.ensures ∙ ap centavos loss) in (
-      omega (arith, c.split-at.ensures.back_len, c.loop-i.invariant.0, left s i n c.loop-i-test.true),
-      λ k. omega (arith, c.split-at.ensures.by_index.2 k 0, c.loop-i.invariant.1 (n + k)),
-      ap₂ (λ m xs. greatest m (scenario_losses unit ps (s - (i + 1)) xs)) most c.split-at.ensures.back
+      omega (arith, c.split_at.ensures.back_len, c.loop-i.invariant.0, left s i n c.loop-i-test.true),
+      λ k. omega (arith, c.split_at.ensures.by_index.2 k 0, c.loop-i.invariant.1 (n + k)),
+      ap₂ (λ m xs. greatest m (scenario_losses unit ps (s - (i + 1)) xs)) most c.split_at.ensures.back
           ∙ sym (ap (λ k. greatest c.loop-i.most (scenario_losses unit ps k rest)) next)
           ∙ c.loop-i.invariant.2,
     )

@@ -8,7 +8,7 @@ quantity_is : (c : goal.After-from-2) → to_z w64 (of_z w64 c.from.result) ≡ 
 quantity_is c = let few = c.requires in let e = c.from.ensures in omega (arith, ints)
 
 each_is : (c : goal.After-from-2) → to_z w64 (of_z w64 c.from-2.result) ≡ pos c.args.each
-each_is c = let k = c.from-2.type-inv in to_z-of_z w64 c.from-2.result (omega (arith, ints)) ∙ c.from-2.ensures
+each_is c = let k = c.from-2.type_inv in to_z-of_z w64 c.from-2.result (omega (arith, ints)) ∙ c.from-2.ensures
 
 product_is : (c : goal.After-from-2) → to_z w64 (of_z w64 c.from.result) *ℤ to_z w64 (of_z w64 c.from-2.result) ≡ c.args.quantity *ℤ pos c.args.each
 product_is c = ap₂ (λ a b. a *ℤ b) (quantity_is c) (each_is c)
@@ -24,8 +24,8 @@ small c = small_fits (c.args.quantity *ℤ pos c.args.each) (omega (arith, size 
 times_is : (c : goal.After-from-2) → to_z w64 (of_z w64 (to_z w64 (of_z w64 c.from.result) *ℤ to_z w64 (of_z w64 c.from-2.result))) ≡ c.args.quantity *ℤ pos c.args.each
 times_is c = ap (λ z. to_z w64 (of_z w64 z)) (product_is c) ∙ to_z-of_z w64 _ (small c)
 
-pub overflow-mul-result : goal.overflow-mul-result
-overflow-mul-result c = subst (SFits w64) (sym (product_is c)) (small c)
+pub overflow_mul-result : goal.overflow_mul-result
+overflow_mul-result c = subst (SFits w64) (sym (product_is c)) (small c)
 
 pub returns : goal.returns
 returns c = record {

@@ -15,14 +15,14 @@ sum_size x q h k =
     let f : SFits w32 (x +ℤ q) = omega (arith, ints) in
     ap nat_abs (ap (λ z. to_z w32 (of_z w32 z)) (ap₂ (λ y z. y +ℤ z) a b) ∙ to_z-of_z w32 (x +ℤ q) f)
 
-pub overflow-sub-result : goal.overflow-sub-result
-overflow-sub-result g c =
+pub overflow_sub-result : goal.overflow_sub-result
+overflow_sub-result g c =
     let n = net_most c.args.index c.args.positions.now c.index-positions-index.result c.requires.within in
-    let v = c.unsigned-abs.ensures.value in
+    let v = c.unsigned_abs.ensures.value in
     omega (arith, ints, c.contracts.ensures, c.requires.few)
 
-pub overflow-add-held : goal.overflow-add-held
-overflow-add-held g c =
+pub overflow_add-held : goal.overflow_add-held
+overflow_add-held g c =
     let n = net_most c.args.index c.args.positions.now c.index-positions-index.result c.requires.within in
     omega (arith, ints, c.requires.few, c.requires.small)
 
@@ -36,8 +36,8 @@ returns g c = λ d.
     let same = ap (λ (o : Position _). o.net) (get_or_default ps i x d c.requires.within) in
     let few : nat_abs (get_or ps i x).net ≤ 10000 = omega (arith, n, c.requires.few) in
     let a : to_z w32 (of_z w32 (get_or ps i x).net) ≡ (get_or ps i x).net = omega (arith, ints) in
-    let v = c.unsigned-abs.ensures.value ∙ ap nat_abs (a ∙ same) in
-    let w = c.unsigned-abs-2.ensures.value ∙ sum_size (get_or ps i x).net c.args.quantity few c.requires.small ∙ ap (λ z. nat_abs (z +ℤ c.args.quantity)) same in
+    let v = c.unsigned_abs.ensures.value ∙ ap nat_abs (a ∙ same) in
+    let w = c.unsigned_abs-2.ensures.value ∙ sum_size (get_or ps i x).net c.args.quantity few c.requires.small ∙ ap (λ z. nat_abs (z +ℤ c.args.quantity)) same in
     let all = gross_at ps i p c.args.quantity c.requires.within (get_or_default ps i d p c.requires.within) in
     let m = net_most i ps d c.requires.within in
     omega (arith, c.contracts.ensures, v, w, all, m)

@@ -28,10 +28,10 @@ small g c =
     small_fits (c.loop-position.sum +ℤ c.worth-sum.result) (omega (arith, size g c, mul-le-mul_right 4294967295 (gross_take (c.loop-position.position-index + 1) c.args.positions.now), mul-le-mul_right 4294967295 c.requires))
 
 worth_is : (g : given.Over) (c : goal.After-worth-sum g) → to_z w64 (of_z w64 c.worth-sum.result) ≡ c.worth-sum.result
-worth_is g c = let o = c.worth-sum.type-inv in to_z-of_z w64 c.worth-sum.result (omega (arith, ints))
+worth_is g c = let o = c.worth-sum.type_inv in to_z-of_z w64 c.worth-sum.result (omega (arith, ints))
 
-pub overflow-add-sum : goal.overflow-add-sum
-overflow-add-sum g c = subst (SFits w64) (sym (ap₂ (λ a b. a +ℤ b) c.loop-position.sum_is (worth_is g c))) (small g c)
+pub overflow_add-sum : goal.overflow_add-sum
+overflow_add-sum g c = subst (SFits w64) (sym (ap₂ (λ a b. a +ℤ b) c.loop-position.sum_is (worth_is g c))) (small g c)
 
 sum_is : (g : given.Over) (c : goal.After-worth-sum g) (z : ℤ) → z ≡ c.loop-position.sum → to_z w64 (of_z w64 (z +ℤ to_z w64 (of_z w64 c.worth-sum.result))) ≡ c.loop-position.sum +ℤ c.worth-sum.result
 sum_is g c z e = ap (λ y. to_z w64 (of_z w64 y)) (ap₂ (λ a b. a +ℤ b) e (worth_is g c)) ∙ to_z-of_z w64 _ (small g c)

@@ -6,7 +6,7 @@ use Rattle.book.proofs.value.worth.Goals as goal
 pub returns : goal.returns
 returns g c =
     let few = c.requires in
-    let o = c.times.type-inv in
+    let o = c.times.type_inv in
     let net : to_z w32 (of_z w32 c.args.position.now.net) ≡ c.args.position.now.net = omega (arith, ints) in
     let same = to_z-of_z w64 c.times.result (omega (arith, ints)) in
     record {

@@ -13,8 +13,8 @@ pub loop-position-init : goal.loop-position-init
 loop-position-init g c = (
   omega arith,
   λ u s.
-      let o = c.protected-value.type-inv in
-      (record { under = omega arith; read = to_z-of_z w64 c.protected-value.result (omega (arith, ints)) ∙ c.protected-value.ensures.exact u s (omega arith) }, record { each = (ahead_self _ _, tt) }),
+      let o = c.protected_value.type_inv in
+      (record { under = omega arith; read = to_z-of_z w64 c.protected_value.result (omega (arith, ints)) ∙ c.protected_value.ensures.exact u s (omega arith) }, record { each = (ahead_self _ _, tt) }),
 )
 
 pub loop-position-preserved : goal.loop-position-preserved
@@ -27,11 +27,11 @@ loop-position-preserved g c =
       omega (arith, c.loop-position-test.true),
       λ u s.
           let f = item_fits K v u ps i p c.loop-position-test.true c.position-item.is s.fitting in
-          let t = c.corners-of.ensures u f s.low in
+          let t = c.corners_of.ensures u f s.low in
           let old = c.loop-position.invariant.1 u s in
           let low : Under u _ = record { each = subst (All (λ x. x ≤ u)) (sym t) (told_low K v g.met.K.Kind.lawful u p.contract p.net f) } in
-          let new = c.worst-corner-found.ensures u s old.0 low in
-          (new.0, search_more K v ps i p c.corners-of.result c.loop-position.found.price c.worst-corner-found.result.price c.loop-position-test.true c.position-item.is t old.1 new.1),
+          let new = c.worst_corner-found.ensures u s old.0 low in
+          (new.0, search_more K v ps i p c.corners_of.result c.loop-position.found.price c.worst_corner-found.result.price c.loop-position-test.true c.position-item.is t old.1 new.1),
     )
 
 pub returns : goal.returns

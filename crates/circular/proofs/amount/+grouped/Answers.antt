@@ -12,7 +12,7 @@ returns-then-n-lt1000 t c =
 pub returns : goal.returns
 returns t c =
     let n = c.args.n in
-    let front = string_bytes c.in-ok-front.front in
+    let front = string_bytes c.in_ok-front.front in
     let text = front ++ (codes "," ++ (decimal (n / 100 % 10) ++ (decimal (n / 10 % 10) ++ decimal (n % 10)))) in
     let e : IfOk c.format-2.result (λ s. string_bytes s ≡ text) = search rules in
-    IfOk-weaker c.format-2.result (λ s. string_bytes s ≡ text) (λ s. Grouped n (string_bytes s)) (λ s p. subst (Grouped n) (sym p) (above n front c.if-n-lt1000.false c.in-ok-front.ensures)) e
+    IfOk-weaker c.format-2.result (λ s. string_bytes s ≡ text) (λ s. Grouped n (string_bytes s)) (λ s p. subst (Grouped n) (sym p) (above n front c.if-n-lt1000.false c.in_ok-front.ensures)) e

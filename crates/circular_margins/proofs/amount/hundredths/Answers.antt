@@ -23,23 +23,23 @@ shown z size front whole text s f g e = record {
 pub returns : goal.returns
 returns c =
     let z = c.args.amount in
-    let size = c.unsigned-abs-size.result in
-    let whole = string_bytes c.in-ok-whole.whole in
+    let size = c.unsigned_abs-size.result in
+    let whole = string_bytes c.in_ok-whole.whole in
     let text = whole ++ (codes "." ++ (decimal (size / 10 % 10) ++ decimal (size % 10))) in
     let s : size ≡ nat_abs z = search rules in
     let t = c.if-amount-lt0.false in
     let b : pos 0 ≤ℤ z = omega (arith, ints) in
     let e : IfOk c.format-2.result (λ s. string_bytes s ≡ text) = search rules in
-    IfOk-weaker c.format-2.result (λ s. string_bytes s ≡ text) _ (λ t p. shown z size [] whole (string_bytes t) s (no_sign z b) c.in-ok-whole.ensures p) e
+    IfOk-weaker c.format-2.result (λ s. string_bytes s ≡ text) _ (λ t p. shown z size [] whole (string_bytes t) s (no_sign z b) c.in_ok-whole.ensures p) e
 
 pub returns-then-amount-lt0 : goal.returns-then-amount-lt0
 returns-then-amount-lt0 c =
     let z = c.args.amount in
-    let size = c.unsigned-abs-size.result in
-    let whole = string_bytes c.in-ok-whole.whole in
+    let size = c.unsigned_abs-size.result in
+    let whole = string_bytes c.in_ok-whole.whole in
     let text = codes "-" ++ (whole ++ (codes "." ++ (decimal (size / 10 % 10) ++ decimal (size % 10)))) in
     let s : size ≡ nat_abs z = search rules in
     let t = c.if-amount-lt0.true in
     let b : z <ℤ pos 0 = omega (arith, ints) in
     let e : IfOk c.format.result (λ s. string_bytes s ≡ text) = search rules in
-    IfOk-weaker c.format.result (λ s. string_bytes s ≡ text) _ (λ t p. shown z size (codes "-") whole (string_bytes t) s (minus z b) c.in-ok-whole.ensures p) e
+    IfOk-weaker c.format.result (λ s. string_bytes s ≡ text) _ (λ t p. shown z size (codes "-") whole (string_bytes t) s (minus z b) c.in_ok-whole.ensures p) e

@@ -15,6 +15,6 @@ right t u worst m e a b = subst (λ t. Right t worst m) e (record { minimum = a;
 
 pub returns : goal.returns
 returns c =
-    let t = tally_of c.in-ok-book.book in
-    let o = c.in-ok-book.ensures in
-    right t (portfolio c.args.places.count c.args.holdings.now) _ _ o.0 (c.minimum-minimum.ensures o.1) (c.in-ok-required.ensures.1 o.1)
+    let t = tally_of c.in_ok-book.book in
+    let o = c.in_ok-book.ensures in
+    right t (portfolio c.args.places.count c.args.holdings.now) _ _ o.0 (c.minimum-minimum.ensures o.1) (c.in_ok-required.ensures.1 o.1)

@@ -22,7 +22,7 @@ next places hs i d q t u l k told e =
 
 pub loop-holding-preserved : goal.loop-holding-preserved
 loop-holding-preserved c =
-    next c.in-Ok.book.places c.args.holdings.now c.loop-holding.holding-index _ _ (tally_of c.loop-holding.book) (tally_of c.trade.new.self) c.loop-holding-test.true c.loop-holding.invariant c.in-ok-trade.ensures (to_z-of_z w32 _ (search rules))
+    next c.in-Ok.book.places c.args.holdings.now c.loop-holding.holding-index _ _ (tally_of c.loop-holding.book) (tally_of c.trade.new.self) c.loop-holding-test.true c.loop-holding.invariant c.in_ok-trade.ensures (to_z-of_z w32 _ (search rules))
 
 pub returns : goal.returns
 returns c =

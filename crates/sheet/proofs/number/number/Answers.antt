@@ -48,11 +48,11 @@ returns-then-b-lt48 c =
           ]);
     }
 
-pub overflow-mul-n : goal.overflow-mul-n
-overflow-mul-n c = omega (arith, low_power c.loop-b.b-index c.args.most (omega arith) c.requires)
+pub overflow_mul-n : goal.overflow_mul-n
+overflow_mul-n c = omega (arith, low_power c.loop-b.b-index c.args.most (omega arith) c.requires)
 
-pub overflow-add-n : goal.overflow-add-n
-overflow-add-n c = omega (arith, low_power c.loop-b.b-index c.args.most (omega arith) c.requires)
+pub overflow_add-n : goal.overflow_add-n
+overflow_add-n c = omega (arith, low_power c.loop-b.b-index c.args.most (omega arith) c.requires)
 
 pub loop-b-preserved : goal.loop-b-preserved
 loop-b-preserved c =

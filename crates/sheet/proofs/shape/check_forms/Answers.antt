@@ -39,13 +39,13 @@ still_short : {P : Field → Type 0} (o : Option Field) → ((f : Field) → P f
 still_short None h p = tt
 still_short (Some f) h p = h f p
 
-pub returns-in-default : goal.returns-in-default
-returns-in-default c =
+pub returns-in_default : goal.returns-in_default
+returns-in_default c =
     let forms = c.args.forms.now in
     let i = c.loop-form.form-index in
     let all = fields c.args.line.bytes.now in
     refused forms i c.loop-form.good all (left c.loop-form.rest) c.loop-form.invariant.0 c.loop-form.invariant.1
-    (subst (Fails (drop i forms)) (sym (ap left c.in-default.is)) (missing forms i Five c.loop-form-test.true))
+    (subst (Fails (drop i forms)) (sym (ap left c.in_default.is)) (missing forms i Five c.loop-form-test.true))
 
 pub returns-then-not-takes : goal.returns-then-not-takes
 returns-then-not-takes c =
@@ -72,17 +72,17 @@ loop-form-preserved c =
       still_short c.cut.result.1 (λ f p. let b = short in omega (arith, p.2)) c.cut.ensures.place,
     )
 
-pub returns-then-is-some : goal.returns-then-is-some
-returns-then-is-some c =
+pub returns-then-is_some : goal.returns-then-is_some
+returns-then-is_some c =
     let forms = c.args.forms.now in
     let i = c.loop-form.form-index in
     let all = fields c.args.line.bytes.now in
-    let p = some_left c.loop-form.rest (sym c.if-is-some.ensures) in
+    let p = some_left c.loop-form.rest (sym c.if-is_some.ensures) in
     refused forms i c.loop-form.good all (left c.loop-form.rest) c.loop-form.invariant.0 c.loop-form.invariant.1
     (subst (Fails (drop i forms)) (sym p.2) (too_many forms i p.0 p.1 c.loop-form-test.false))
 
-pub returns-else-is-some : goal.returns-else-is-some
-returns-else-is-some c =
+pub returns-else-is_some : goal.returns-else-is_some
+returns-else-is_some c =
     let forms = c.args.forms.now in
     let i = c.loop-form.form-index in
-    sym c.loop-form.invariant.0 ∙ ap (of_forms (drop i forms)) (none_left c.loop-form.rest (sym c.if-is-some.ensures)) ∙ all_there forms i c.loop-form-test.false
+    sym c.loop-form.invariant.0 ∙ ap (of_forms (drop i forms)) (none_left c.loop-form.rest (sym c.if-is_some.ensures)) ∙ all_there forms i c.loop-form-test.false

@@ -4,7 +4,7 @@ use Rattle.sheet.proofs.split.four_fields.Goals as goal
 
 pub returns : goal.returns
 returns c =
-    let left1 = rest_length c.args.line c.first-and-rest.result.0 c.first-and-rest.result.1 3 c.first-and-rest.ensures.cut c.requires.four in
-    let left2 = rest_length c.first-and-rest.result.1 c.first-and-rest-2.result.0 c.first-and-rest-2.result.1 2 c.first-and-rest-2.ensures.cut left1 in
-    let left3 = rest_length c.first-and-rest-2.result.1 c.first-and-rest-3.result.0 c.first-and-rest-3.result.1 1 c.first-and-rest-3.ensures.cut left2 in
-    more_told c.args.line c.first-and-rest.result.0 c.first-and-rest.result.1 (c.first-and-rest-2.result.0 ∷ c.first-and-rest-3.result.0 ∷ c.first-and-rest-3.result.1 ∷ []) c.first-and-rest.ensures.cut (more_told c.first-and-rest.result.1 c.first-and-rest-2.result.0 c.first-and-rest-2.result.1 (c.first-and-rest-3.result.0 ∷ c.first-and-rest-3.result.1 ∷ []) c.first-and-rest-2.ensures.cut (more_told c.first-and-rest-2.result.1 c.first-and-rest-3.result.0 c.first-and-rest-3.result.1 (c.first-and-rest-3.result.1 ∷ []) c.first-and-rest-3.ensures.cut (lone_told c.first-and-rest-3.result.1 left3)))
+    let left1 = rest_length c.args.line c.first_and_rest.result.0 c.first_and_rest.result.1 3 c.first_and_rest.ensures.cut c.requires.four in
+    let left2 = rest_length c.first_and_rest.result.1 c.first_and_rest-2.result.0 c.first_and_rest-2.result.1 2 c.first_and_rest-2.ensures.cut left1 in
+    let left3 = rest_length c.first_and_rest-2.result.1 c.first_and_rest-3.result.0 c.first_and_rest-3.result.1 1 c.first_and_rest-3.ensures.cut left2 in
+    more_told c.args.line c.first_and_rest.result.0 c.first_and_rest.result.1 (c.first_and_rest-2.result.0 ∷ c.first_and_rest-3.result.0 ∷ c.first_and_rest-3.result.1 ∷ []) c.first_and_rest.ensures.cut (more_told c.first_and_rest.result.1 c.first_and_rest-2.result.0 c.first_and_rest-2.result.1 (c.first_and_rest-3.result.0 ∷ c.first_and_rest-3.result.1 ∷ []) c.first_and_rest-2.ensures.cut (more_told c.first_and_rest-2.result.1 c.first_and_rest-3.result.0 c.first_and_rest-3.result.1 (c.first_and_rest-3.result.1 ∷ []) c.first_and_rest-3.ensures.cut (lone_told c.first_and_rest-3.result.1 left3)))

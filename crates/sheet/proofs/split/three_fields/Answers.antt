@@ -4,6 +4,6 @@ use Rattle.sheet.proofs.split.three_fields.Goals as goal
 
 pub returns : goal.returns
 returns c =
-    let left1 = rest_length c.args.line c.first-and-rest.result.0 c.first-and-rest.result.1 2 c.first-and-rest.ensures.cut c.requires.three in
-    let left2 = rest_length c.first-and-rest.result.1 c.first-and-rest-2.result.0 c.first-and-rest-2.result.1 1 c.first-and-rest-2.ensures.cut left1 in
-    more_told c.args.line c.first-and-rest.result.0 c.first-and-rest.result.1 (c.first-and-rest-2.result.0 ∷ c.first-and-rest-2.result.1 ∷ []) c.first-and-rest.ensures.cut (more_told c.first-and-rest.result.1 c.first-and-rest-2.result.0 c.first-and-rest-2.result.1 (c.first-and-rest-2.result.1 ∷ []) c.first-and-rest-2.ensures.cut (lone_told c.first-and-rest-2.result.1 left2))
+    let left1 = rest_length c.args.line c.first_and_rest.result.0 c.first_and_rest.result.1 2 c.first_and_rest.ensures.cut c.requires.three in
+    let left2 = rest_length c.first_and_rest.result.1 c.first_and_rest-2.result.0 c.first_and_rest-2.result.1 1 c.first_and_rest-2.ensures.cut left1 in
+    more_told c.args.line c.first_and_rest.result.0 c.first_and_rest.result.1 (c.first_and_rest-2.result.0 ∷ c.first_and_rest-2.result.1 ∷ []) c.first_and_rest.ensures.cut (more_told c.first_and_rest.result.1 c.first_and_rest-2.result.0 c.first_and_rest-2.result.1 (c.first_and_rest-2.result.1 ∷ []) c.first_and_rest-2.ensures.cut (lone_told c.first_and_rest-2.result.1 left2))

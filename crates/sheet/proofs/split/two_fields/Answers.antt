@@ -4,5 +4,5 @@ use Rattle.sheet.proofs.split.two_fields.Goals as goal
 
 pub returns : goal.returns
 returns c =
-    let left1 = rest_length c.args.line c.first-and-rest.result.0 c.first-and-rest.result.1 1 c.first-and-rest.ensures.cut c.requires.two in
-    more_told c.args.line c.first-and-rest.result.0 c.first-and-rest.result.1 (c.first-and-rest.result.1 ∷ []) c.first-and-rest.ensures.cut (lone_told c.first-and-rest.result.1 left1)
+    let left1 = rest_length c.args.line c.first_and_rest.result.0 c.first_and_rest.result.1 1 c.first_and_rest.ensures.cut c.requires.two in
+    more_told c.args.line c.first_and_rest.result.0 c.first_and_rest.result.1 (c.first_and_rest.result.1 ∷ []) c.first_and_rest.ensures.cut (lone_told c.first_and_rest.result.1 left1)

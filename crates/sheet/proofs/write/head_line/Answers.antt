@@ -12,12 +12,12 @@ word_length Market = omega arith
 word_length Positions = omega arith
 word_length Scenarios = omega arith
 
-pub push-number-requires : goal.push-number-requires
-push-number-requires c =
+pub push_number-requires : goal.push_number-requires
+push_number-requires c =
     let e : line_text c.push.new.self ≡ word_bytes c.args.word ++ (32 ∷ []) = search rules in
     omega (arith, ap length e, length_push (word_bytes c.args.word) 32, word_length c.args.word, length-decimal-le 10 c.args.n (omega arith) (omega arith) (omega arith))
 
 pub push-requires-2 : goal.push-requires-2
 push-requires-2 c =
     let e : line_text c.push.new.self ≡ word_bytes c.args.word ++ (32 ∷ []) = search rules in
-    omega (arith, ap length c.push-number.ensures, length-append (line_text c.push.new.self) (decimal c.args.n), ap length e, length_push (word_bytes c.args.word) 32, word_length c.args.word, length-decimal-le 10 c.args.n (omega arith) (omega arith) (omega arith))
+    omega (arith, ap length c.push_number.ensures, length-append (line_text c.push.new.self) (decimal c.args.n), ap length e, length_push (word_bytes c.args.word) 32, word_length c.args.word, length-decimal-le 10 c.args.n (omega arith) (omega arith) (omega arith))

@@ -14,8 +14,8 @@ quantity_length z f = length_signed_le 10 z (omega (arith, f.sfits)) (omega (ari
 joined : (t q l : List ℕ) → l ≡ ((t ++ 32 ∷ []) ++ q) ++ 10 ∷ [] → l ≡ t ++ (32 ∷ (q ++ (10 ∷ [])))
 joined t q l e = e ∙ append_assoc (t ++ 32 ∷ []) q (10 ∷ []) ∙ append_assoc t (32 ∷ []) (q ++ (10 ∷ []))
 
-pub push-quantity-requires : goal.push-quantity-requires
-push-quantity-requires g c =
+pub push_quantity-requires : goal.push_quantity-requires
+push_quantity-requires g c =
     let q = to_z-of_z w32 c.args.quantity c.ranges.quantity in
     omega (arith, c.write-line.ensures.short, ap length c.push.ensures, length_push (line_text c.write-line.result) 32, ap (λ z. length (signed_decimal z)) q, quantity_length c.args.quantity c.ranges.quantity)
 
@@ -26,10 +26,10 @@ behind front old new z y o n e = n ∙ ap₂ (λ l x. l ++ signed_decimal x) o e
 pub push-requires-2 : goal.push-requires-2
 push-requires-2 g c =
     let front = line_text c.write-line.result ++ 32 ∷ [] in
-    omega (arith, c.write-line.ensures.short, length_push (line_text c.write-line.result) 32, ap length (behind _ _ _ c.args.quantity _ c.push.ensures c.push-quantity.ensures (to_z-of_z w32 c.args.quantity c.ranges.quantity)), length-append front (signed_decimal c.args.quantity), quantity_length c.args.quantity c.ranges.quantity)
+    omega (arith, c.write-line.ensures.short, length_push (line_text c.write-line.result) 32, ap length (behind _ _ _ c.args.quantity _ c.push.ensures c.push_quantity.ensures (to_z-of_z w32 c.args.quantity c.ranges.quantity)), length-append front (signed_decimal c.args.quantity), quantity_length c.args.quantity c.ranges.quantity)
 
 pub returns : goal.returns
 returns g c =
-    let q = behind _ _ _ c.args.quantity _ c.push.ensures c.push-quantity.ensures (to_z-of_z w32 c.args.quantity c.ranges.quantity) in
+    let q = behind _ _ _ c.args.quantity _ c.push.ensures c.push_quantity.ensures (to_z-of_z w32 c.args.quantity c.ranges.quantity) in
     joined (text_bytes (g.K.Stored.stored.written c.args.contract.now)) (signed_decimal c.args.quantity) _
     (c.push-2.ensures ∙ ap (λ l. l ++ 10 ∷ []) (q ∙ ap (λ l. (l ++ 32 ∷ []) ++ signed_decimal c.args.quantity) c.write-line.ensures.text))

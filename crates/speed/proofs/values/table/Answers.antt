@@ -16,4 +16,4 @@ loop-place-preserved c =
     let v = c.loop-place.values in
     let i = c.loop-place.invariant in
     let l : length (vec_items v) ≡ c.loop-place.place = sym v.ok.0 ∙ i.0 in
-    (search rules, λ k b. ap (λ xs. get_or xs k 0) c.in-ok-push.ensures.items ∙ pushed value_at (vec_items v) c.loop-place.place c.value.result l i.1 c.value.ensures k b)
+    (search rules, λ k b. ap (λ xs. get_or xs k 0) c.in_ok-push.ensures.items ∙ pushed value_at (vec_items v) c.loop-place.place c.value.result l i.1 c.value.ensures k b)

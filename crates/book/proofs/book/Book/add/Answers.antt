@@ -18,13 +18,13 @@ sum_is x q h k =
     let f : SFits w32 (x +ℤ q) = omega (arith, ints) in
     ap (λ z. to_z w32 (of_z w32 z)) (ap₂ (λ y z. y +ℤ z) a b) ∙ to_z-of_z w32 (x +ℤ q) f
 
-pub overflow-add-net : goal.overflow-add-net
-overflow-add-net g c =
+pub overflow_add-net : goal.overflow_add-net
+overflow_add-net g c =
     let n = net_small (vec_items c.args.self.now.positions) c.args.index c.index.result.now c.requires.within c.index.ensures c.args.self.now.few in
     omega (arith, ints, c.requires.small)
 
-pub invariant-of-self : goal.invariant-of-self
-invariant-of-self g c =
+pub invariant_of-self : goal.invariant_of-self
+invariant_of-self g c =
     let old = c.args.self.now in
     let ps = vec_items old.positions in
     let i = c.args.index in
@@ -66,8 +66,8 @@ set_is ps i p m q s l e f n some =
     let same = f ∙ get_or_default ps i m p l ∙ sym e in
     ap₂ (λ (o : Position _) z. set ps i (record { contract = o.contract; net = z })) same n ∙ sym (at_some ps i p q l some)
 
-pub invariant-of-self-else-net-eq0 : goal.invariant-of-self-else-net-eq0
-invariant-of-self-else-net-eq0 g c =
+pub invariant_of-self-else-net-eq0 : goal.invariant_of-self-else-net-eq0
+invariant_of-self-else-net-eq0 g c =
     let old = c.args.self.now in
     let ps = vec_items old.positions in
     let i = c.args.index in
@@ -75,7 +75,7 @@ invariant-of-self-else-net-eq0 g c =
     let q = c.args.quantity in
     let n = net_small ps i p c.requires.within c.index.ensures old.few in
     let some = sum_some p.net q n c.requires.small c.if-net-eq0.false in
-    let items = set_is ps i p c.index-mut.result.now q _ c.requires.within c.index.ensures c.index-mut.ensures.value (sum_is p.net q n c.requires.small) some in
+    let items = set_is ps i p c.index_mut.result.now q _ c.requires.within c.index.ensures c.index_mut.ensures.value (sum_is p.net q n c.requires.small) some in
     let few = subst (λ o. gross (traded_at ps i o q) ≤ 10000) (sym c.index.ensures) (c.requires.few p) in (
       old.some,
       (
@@ -105,6 +105,6 @@ returns-else-net-eq0 g c = λ d.
     let q = c.args.quantity in
     let n = net_small ps i p c.requires.within c.index.ensures old.few in
     let some = sum_some p.net q n c.requires.small c.if-net-eq0.false in
-    let items = set_is ps i p c.index-mut.result.now q _ c.requires.within c.index.ensures c.index-mut.ensures.value (sum_is p.net q n c.requires.small) some in
+    let items = set_is ps i p c.index_mut.result.now q _ c.requires.within c.index.ensures c.index_mut.ensures.value (sum_is p.net q n c.requires.small) some in
     let same = c.index.ensures ∙ get_or_default ps i p d c.requires.within in
     ap (λ xs. record { places = old.places; market = old.market; positions = xs }) (items ∙ ap (λ o. traded_at ps i o q) same)

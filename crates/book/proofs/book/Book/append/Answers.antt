@@ -5,17 +5,17 @@ use Rattle.book.specs.Losses.{gross, all_held}
 use Rattle.book.proofs.TradedLists.{gross_append, held_append}
 use Rattle.book.proofs.book.Book.append.Goals as goal
 
-pub invariant-of-self : goal.invariant-of-self
-invariant-of-self g c =
+pub invariant_of-self : goal.invariant_of-self
+invariant_of-self g c =
     let old = c.args.self.now in
     let ps = vec_items old.positions in
     let x : Position g.row.K.Denot = record { contract = c.args.contract; net = c.args.quantity } in
-    let items : vec_items c.push-reserved.new.self ≡ ps ++ x ∷ [] = search rules in (
+    let items : vec_items c.push_reserved.new.self ≡ ps ++ x ∷ [] = search rules in (
       old.some,
       (
         old.most,
         (
-          omega (arith, c.requires.room, c.push-reserved.ensures.len),
+          omega (arith, c.requires.room, c.push_reserved.ensures.len),
           (
             search rules,
             (

@@ -8,7 +8,7 @@ use Rattle.book.proofs.ReadingLines.{after_more, told_more}
 use Rattle.book.proofs.PositionFaults.{good_line, well_told, own_some, own_most, over_few, told_most}
 use Rattle.book.proofs.ValueBounds.{same_net}
 use Rattle.book.proofs.book.Book.fill_positions.Goals as goal
-use Rattle.book.proofs.book.Book.fill_positions.Goals.{in-Ok, in-default}
+use Rattle.book.proofs.book.Book.fill_positions.Goals.{in-Ok, in_default}
 
 pub loop-init : goal.loop-init
 loop-init g c =
@@ -54,7 +54,7 @@ loop-preserved g c =
     let bs = unread c.loop.reader in
     let left : c.args.count - i ≡ suc n = omega (arith, c.loop-test.true) in
     let no : positions_fault K s m (suc n) line above bs ≡ None = sym (ap (λ k. positions_fault K s m k line above bs) left) ∙ c.loop.invariant.2 in
-    elim c.match-read-position.branch [
+    elim c.match-read_position.branch [
       | in-Ok w ↦
           let p = w.in-Ok.position in
           let t = w.in-Ok.ensures.told in
@@ -62,10 +62,10 @@ loop-preserved g c =
           let net = same_net p.net (own_most K s m line p good.own) in
           let items : vec_items c.loop.self.positions ≡ above = ap (λ x. x.positions) c.loop.invariant.3 in
           let more : positions_told s (i + 1) b0 ≡ above ++ p ∷ [] = ap (λ k. positions_told s k b0) (let e : i + 1 ≡ suc i = omega arith in e) ∙ told_more s i b0 ∙ ap (λ b. above ++ option_to_list (position_told s b)) (sym c.loop.invariant.1) ∙ ap (λ o. above ++ option_to_list o) t.1 in
-          let on : unread c.read-position.new.reader ≡ after_lines (i + 1) b0 = t.2 ∙ ap (λ b. past (after 10 b)) c.loop.invariant.1 ∙ sym (after_more i b0) ∙ ap (λ k. after_lines k b0) (let e : suc i ≡ i + 1 = omega arith in e) in
-          let rest : positions_fault K s m n (suc c.read-position.new.reader.lines) (positions_told s (i + 1) b0) (unread c.read-position.new.reader) ≡ None =
-          ap (λ ps. positions_fault K s m n (suc c.read-position.new.reader.lines) ps (unread c.read-position.new.reader)) more ∙ ap₂ (λ l b. positions_fault K s m n (suc l) (above ++ p ∷ []) b) t.3 t.2 ∙ good.below in
-          let held : tally_of c.match-read-position.self ≡ record { places = c.args.self.now.places; market = m; positions = above ++ p ∷ [] } =
+          let on : unread c.read_position.new.reader ≡ after_lines (i + 1) b0 = t.2 ∙ ap (λ b. past (after 10 b)) c.loop.invariant.1 ∙ sym (after_more i b0) ∙ ap (λ k. after_lines k b0) (let e : suc i ≡ i + 1 = omega arith in e) in
+          let rest : positions_fault K s m n (suc c.read_position.new.reader.lines) (positions_told s (i + 1) b0) (unread c.read_position.new.reader) ≡ None =
+          ap (λ ps. positions_fault K s m n (suc c.read_position.new.reader.lines) ps (unread c.read_position.new.reader)) more ∙ ap₂ (λ l b. positions_fault K s m n (suc l) (above ++ p ∷ []) b) t.3 t.2 ∙ good.below in
+          let held : tally_of c.match-read_position.self ≡ record { places = c.args.self.now.places; market = m; positions = above ++ p ∷ [] } =
           ap tally_of w.self-is ∙ w.append.ensures
           ∙ ap₂ (λ ps z. record { places = c.loop.self.places; market = c.loop.self.market; positions = ps ++ record { contract = p.contract; net = z } ∷ [] }) items net
           ∙ ap (λ x. record { places = x.places; market = x.market; positions = above ++ p ∷ [] }) c.loop.invariant.3 in (
@@ -74,7 +74,7 @@ loop-preserved g c =
             rest,
             held ∙ ap (λ ps. record { places = c.args.self.now.places; market = m; positions = ps }) (sym more),
           )
-      | in-default w ↦ absurd (let z : ◌≡◌ {A = ℕ} 0 1 = ap (λ o. cond (is_some o) 1 0) (sym (well_told K s m n line above bs no) ∙ w.in-default.ensures.told) in omega arith)
+      | in_default w ↦ absurd (let z : ◌≡◌ {A = ℕ} 0 1 = ap (λ o. cond (is_some o) 1 0) (sym (well_told K s m n line above bs no) ∙ w.in_default.ensures.told) in omega arith)
     ]
 
 pub returns : goal.returns

@@ -12,5 +12,5 @@ returns g c = λ k.
     let m = old.market in
     let ps = vec_items old.positions in
     let s : Sound K (variation_of m) m.ceiling ps = record { fitting = k.fitting; low = (right m old.right).ceiling_low } in
-    let r = c.minimum-margin.result in
-    subst (λ qs. Margin (loss K (variation_of m) (price_unit m) qs) r.0 r.1) c.as-slice.ensures.value (c.minimum-margin.ensures (subst (Sound K (variation_of m) m.ceiling) (sym c.as-slice.ensures.value) s))
+    let r = c.minimum_margin.result in
+    subst (λ qs. Margin (loss K (variation_of m) (price_unit m) qs) r.0 r.1) c.as_slice.ensures.value (c.minimum_margin.ensures (subst (Sound K (variation_of m) m.ceiling) (sym c.as_slice.ensures.value) s))

@@ -6,8 +6,8 @@ use Rattle.book.specs.Losses.{gross, all_held}
 use Rattle.book.specs.Tallies.{Kept, or_else}
 use Rattle.book.proofs.book.Book.open.Goals as goal
 
-pub invariant-of-result : goal.invariant-of-result
-invariant-of-result g c =
+pub invariant_of-result : goal.invariant_of-result
+invariant_of-result g c =
     let places = c.args.places in
     let e : vec_items places.positions ≡ [] = nil_from_length _ (sym places.positions.ok.0 ∙ places.empty) in (
       c.if-places-lt1.false,
@@ -18,7 +18,7 @@ invariant-of-result g c =
           (
             omega (arith, places.room),
             (
-              ap is_some (sym c.refusal.ensures ∙ c.in-default.is),
+              ap is_some (sym c.refusal.ensures ∙ c.in_default.is),
               (
                 omega (arith, ap gross e),
                 (ap all_held e, (omega (arith, places.spare), tt)),
@@ -36,7 +36,7 @@ returns g c =
     let e : vec_items places.positions ≡ [] = nil_from_length _ (sym places.positions.ok.0 ∙ places.empty) in
     let inside = or_from (ltb n 1) (ltb 128 n) (le-ltb n 1 c.if-places-lt1.false) (le-ltb 128 n c.if-places-gt128.false) in
     let t = ap (λ ps. record { places = n; market = c.args.market; positions = ps }) e in (
-      ap₂ (λ o b. or_else o (cond b (Some Places) None)) (sym c.refusal.ensures ∙ c.in-default.is) inside,
+      ap₂ (λ o b. or_else o (cond b (Some Places) None)) (sym c.refusal.ensures ∙ c.in_default.is) inside,
       t,
       subst (Kept g.K.Kind.means) (sym t) (record { fitting = tt; distinct = tt }),
     )

@@ -6,16 +6,16 @@ use Rattle.book.proofs.LawfulRuns.{enough}
 use Rattle.book.proofs.ReadingLines.{handed_on}
 use Rattle.book.proofs.book.Book.open_and_run.Goals as goal
 
-pub returns-in-err-book : goal.returns-in-err-book
-returns-in-err-book g c =
-    let o = c.in-err-book.ensures in
-    let r = handed_on c.from-residual.result c.in-err-book.field-0.0 c.from-residual.ensures.1 in
+pub returns-in_err-book : goal.returns-in_err-book
+returns-in_err-book g c =
+    let o = c.in_err-book.ensures in
+    let r = handed_on c.from_residual.result c.in_err-book.field-0.0 c.from_residual.ensures.1 in
     subst (Started g.K.Kind.means _ _ _ c.args.calls.now c.args.replies.now c.args.replies.now) (sym r) (enough c.args.calls.now c.args.replies.now _ c.if-replies-calls.false ∙ o.0, ap (λ p. p.count) o.1, refl)
 
 pub returns : goal.returns
 returns g c =
-    let o = c.in-ok-book.ensures in (
+    let o = c.in_ok-book.ensures in (
       enough c.args.calls.now c.args.replies.now _ c.if-replies-calls.false ∙ o.0,
-      subst (λ t. LawfulRun g.K.Kind.means t c.args.calls.now (take (length c.args.calls.now) c.run-all.new.replies) (tally_of c.run-all.new.self)) o.1 (c.run-all.ensures.law o.2),
-      c.run-all.ensures.rest,
+      subst (λ t. LawfulRun g.K.Kind.means t c.args.calls.now (take (length c.args.calls.now) c.run_all.new.replies) (tally_of c.run_all.new.self)) o.1 (c.run_all.ensures.law o.2),
+      c.run_all.ensures.rest,
     )

@@ -10,19 +10,19 @@ use Rattle.book.proofs.MarketFacts.{right, unit_low, stressed_most}
 use Rattle.book.proofs.ScenarioCovers.{both_least, none_above}
 use Rattle.book.proofs.book.Book.required.Goals as goal
 
-pub scenario-margin-stressed-requires : goal.scenario-margin-stressed-requires
-scenario-margin-stressed-requires g c =
+pub scenario_margin-stressed-requires : goal.scenario_margin-stressed-requires
+scenario_margin-stressed-requires g c =
     let old = c.args.self.now in
     let m = old.market in
     let r = right m old.right in
-    let v = c.as-slice.ensures.value in
+    let v = c.as_slice.ensures.value in
     let u = c.value_unit.ensures in
     record {
       few = omega (arith, ap gross v, old.few);
       unit = omega (arith, u, unit_low m r);
       low = omega (arith, ap (λ n. 10000 * (100 * m.ceiling) * n) u, stressed_most m r);
-      values = none_above (100 * m.ceiling) c.args.table.now (sym c.first-above.ensures ∙ c.in-default.is);
-      whole = c.if-table-scenarios.false ∙ ap (λ n. c.args.scenarios * n) (c.len.ensures ∙ sym c.as-slice.ensures.len);
+      values = none_above (100 * m.ceiling) c.args.table.now (sym c.first_above.ensures ∙ c.in_default.is);
+      whole = c.if-table-scenarios.false ∙ ap (λ n. c.args.scenarios * n) (c.len.ensures ∙ sym c.as_slice.ensures.len);
     }
 
 pub returns : goal.returns
@@ -38,11 +38,11 @@ returns g c =
     let refusal =
     ap (λ b. cond b (Some Scenarios) (cond (not (eqb (length table) (s * length ps))) (Some TableLength) (option_map (λ i. ScenarioValue i) (first_above (100 * m.ceiling) table)))) inside
     ∙ ap (λ b. cond (not b) (Some TableLength) (option_map (λ i. ScenarioValue i) (first_above (100 * m.ceiling) table))) (eq-eqb (length table) (s * length ps) whole)
-    ∙ ap (option_map (λ i. ScenarioValue i)) (sym c.first-above.ensures ∙ c.in-default.is) in (
+    ∙ ap (option_map (λ i. ScenarioValue i)) (sym c.first_above.ensures ∙ c.in_default.is) in (
       refusal,
       λ k.
           let least = (c.minimum-minimum.ensures k).covers in
-          let stressed = c.scenario-margin-stressed.ensures ∙ ap₂ (λ u qs. greatest 0 (scenario_losses u qs s table)) c.value_unit.ensures c.as-slice.ensures.value in
+          let stressed = c.scenario_margin-stressed.ensures ∙ ap₂ (λ u qs. greatest 0 (scenario_losses u qs s table)) c.value_unit.ensures c.as_slice.ensures.value in
           let n = c.max.ensures ∙ ap (max c.minimum-minimum.result.0) stressed in
           subst (Least (CoversBoth (loss K (variation_of m) (price_unit m) ps) (scenario_losses (value_unit m) ps s table))) (sym n)
           (both_least (loss K (variation_of m) (price_unit m) ps) (scenario_losses (value_unit m) ps s table) c.minimum-minimum.result.0 least),

@@ -12,7 +12,7 @@ loop-i-preserved g c =
     let book = c.args.self.now in
     let lines = sheet_lines s (tally_of book) in
     let i = c.loop-i.i in
-    let line = c.sheet-line.result in
+    let line = c.sheet_line.result in
     let room = line.room in
     let whole = length-map (vec_items book.positions) (position_line s) in
     let inside : i < length lines = omega (arith, c.loop-i-test.true, c.len-i-end.ensures, book.positions.ok.0, whole) in
@@ -20,7 +20,7 @@ loop-i-preserved g c =
     let on = ap length (text_on lines i inside) ∙ length-append (text (take i lines)) _ in (
       omega (arith, c.loop-i-test.true, c.len-i-end.ensures),
       omega (arith, c.loop-i.invariant.1, c.len-bytes.ensures, short),
-      omega (arith, c.loop-i.invariant.2, c.len-bytes.ensures, ap length c.sheet-line.ensures, on),
+      omega (arith, c.loop-i.invariant.2, c.len-bytes.ensures, ap length c.sheet_line.ensures, on),
     )
 
 pub returns : goal.returns

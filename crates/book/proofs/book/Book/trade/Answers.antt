@@ -33,14 +33,14 @@ returns-in-Some g c =
     let q = to_z-of_z w32 c.args.quantity c.ranges.quantity in
     let d : Position g.row.K.Denot = record { contract = c.args.contract; net = pos 0 } in
     let p = get_or ps i d in
-    let f = subst (Found K c.args.contract i) c.as-slice.ensures.value c.in-Some.ensures in
-    let size = c.unsigned-abs.ensures.value ∙ ap nat_abs q in
+    let f = subst (Found K c.args.contract i) c.as_slice.ensures.value c.in-Some.ensures in
+    let size = c.unsigned_abs.ensures.value ∙ ap nat_abs q in
     let some = not_zero c.args.quantity c.if-quantity-eq0.false in
     let fits = ap (λ v. K.fits c.args.contract v old.market.ceiling) (sym c.variation.ensures) ∙ sym c.if-not-fits.ensures.told in
     let e = traded_held K c.args.contract c.args.quantity ps i p f.0 (get_or_default ps i d p f.0) f.1 (f.2 d) in
-    ended K (tally_of old) c.args.contract c.args.quantity (traded_at ps i p c.args.quantity) (tally_of c.trade-held.new.self) c.trade-held.result
-    (right_quantity (nat_abs c.args.quantity) some (omega (arith, size, c.if-unsigned-abs-gt10000.false))) fits e
-    (subst (λ z. Told (ends_refusal (tally_of old) (traded_at ps i p z)) (tally_of old) (holding (tally_of old) (traded_at ps i p z)) (tally_of c.trade-held.new.self) c.trade-held.result) q (c.trade-held.ensures d))
+    ended K (tally_of old) c.args.contract c.args.quantity (traded_at ps i p c.args.quantity) (tally_of c.trade_held.new.self) c.trade_held.result
+    (right_quantity (nat_abs c.args.quantity) some (omega (arith, size, c.if-unsigned_abs-gt10000.false))) fits e
+    (subst (λ z. Told (ends_refusal (tally_of old) (traded_at ps i p z)) (tally_of old) (holding (tally_of old) (traded_at ps i p z)) (tally_of c.trade_held.new.self) c.trade_held.result) q (c.trade_held.ensures d))
 
 pub returns-in-None : goal.returns-in-None
 returns-in-None g c =
@@ -48,12 +48,12 @@ returns-in-None g c =
     let old = c.args.self.now in
     let ps = vec_items old.positions in
     let q = to_z-of_z w32 c.args.quantity c.ranges.quantity in
-    let f = subst (All (λ p. K.same p.contract c.args.contract ≡ false)) c.as-slice.ensures.value c.in-None.ensures in
-    let size = c.unsigned-abs.ensures.value ∙ ap nat_abs q in
+    let f = subst (All (λ p. K.same p.contract c.args.contract ≡ false)) c.as_slice.ensures.value c.in-None.ensures in
+    let size = c.unsigned_abs.ensures.value ∙ ap nat_abs q in
     let some = not_zero c.args.quantity c.if-quantity-eq0.false in
     let fits = ap (λ v. K.fits c.args.contract v old.market.ceiling) (sym c.variation.ensures) ∙ sym c.if-not-fits.ensures.told in
     let new : ℤ → List (Position g.row.K.Denot) = λ z. ps ++ record { contract = c.args.contract; net = z } ∷ [] in
     let e = traded_new K c.args.contract c.args.quantity ps f ∙ ap (λ qs. ps ++ qs) (put_some c.args.contract c.args.quantity [] some) in
-    ended K (tally_of old) c.args.contract c.args.quantity (new c.args.quantity) (tally_of c.trade-new.new.self) c.trade-new.result
-    (right_quantity (nat_abs c.args.quantity) some (omega (arith, size, c.if-unsigned-abs-gt10000.false))) fits e
-    (subst (λ z. Told (ends_refusal (tally_of old) (new z)) (tally_of old) (holding (tally_of old) (new z)) (tally_of c.trade-new.new.self) c.trade-new.result) q c.trade-new.ensures)
+    ended K (tally_of old) c.args.contract c.args.quantity (new c.args.quantity) (tally_of c.trade_new.new.self) c.trade_new.result
+    (right_quantity (nat_abs c.args.quantity) some (omega (arith, size, c.if-unsigned_abs-gt10000.false))) fits e
+    (subst (λ z. Told (ends_refusal (tally_of old) (new z)) (tally_of old) (holding (tally_of old) (new z)) (tally_of c.trade_new.new.self) c.trade_new.result) q c.trade_new.ensures)

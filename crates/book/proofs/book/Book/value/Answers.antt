@@ -15,7 +15,7 @@ returns g c =
       c.if-price-self.false,
       λ k.
           let s : Sound K (variation_of old.market) u ps = record { fitting = k.fitting; low = (right old.market old.right).ceiling_low } in
-          let t = subst (λ qs. Sound K c.variation.result u qs) (sym c.as-slice.ensures.value) (subst (λ v. Sound K v u ps) (sym c.variation.ensures) s) in
-          let o = c.protected-value.type-inv in
-          to_z-of_z w64 c.protected-value.result (omega (arith, ints)) ∙ c.protected-value.ensures.exact u t c.if-price-self.false ∙ ap₂ (λ v qs. value K v qs c.args.price) c.variation.ensures c.as-slice.ensures.value,
+          let t = subst (λ qs. Sound K c.variation.result u qs) (sym c.as_slice.ensures.value) (subst (λ v. Sound K v u ps) (sym c.variation.ensures) s) in
+          let o = c.protected_value.type_inv in
+          to_z-of_z w64 c.protected_value.result (omega (arith, ints)) ∙ c.protected_value.ensures.exact u t c.if-price-self.false ∙ ap₂ (λ v qs. value K v qs c.args.price) c.variation.ensures c.as_slice.ensures.value,
     )

@@ -7,8 +7,8 @@ use Rattle.book.proofs.SheetBooks.{readable}
 use Rattle.book.proofs.JoinedLines.{text, text_on, text_most, put_next}
 use Rattle.book.proofs.book.Book.write.Goals as goal
 
-pub put-line-at-requires : goal.put-line-at-requires
-put-line-at-requires g c =
+pub put_line_at-requires : goal.put_line_at-requires
+put_line_at-requires g c =
     let s = g.K.Stored.stored in
     let book = c.args.self.now in
     let lines = sheet_lines s (tally_of book) in
@@ -16,7 +16,7 @@ put-line-at-requires g c =
     let whole = length-map (vec_items book.positions) (position_line s) in
     let inside : i < length lines = omega (arith, c.loop-i-test.true, c.len-i-end.ensures, book.positions.ok.0, whole) in
     let on = ap length (text_on lines i inside) ∙ length-append (text (take i lines)) _ in
-    omega (arith, c.loop-i.invariant.1, ap length c.sheet-line.ensures, on, text_most lines (i + 1), c.sheet-len-needed.ensures, c.if-out-needed.false, c.loop-i.auto.out)
+    omega (arith, c.loop-i.invariant.1, ap length c.sheet_line.ensures, on, text_most lines (i + 1), c.sheet_len-needed.ensures, c.if-out-needed.false, c.loop-i.auto.out)
 
 pub loop-i-preserved : goal.loop-i-preserved
 loop-i-preserved g c =
@@ -25,14 +25,14 @@ loop-i-preserved g c =
     let lines = sheet_lines s (tally_of book) in
     let i = c.loop-i.i in
     let old = c.args.out.now in
-    let line = line_text c.sheet-line.result in
+    let line = line_text c.sheet_line.result in
     let whole = length-map (vec_items book.positions) (position_line s) in
     let inside : i < length lines = omega (arith, c.loop-i-test.true, c.len-i-end.ensures, book.positions.ok.0, whole) in
-    let next : text (take i lines) ++ line ≡ text (take (i + 1) lines) = ap (λ l. text (take i lines) ++ l) c.sheet-line.ensures ∙ sym (text_on lines i inside) in
-    let put = put_next (text (take i lines)) line old c.loop-i.out c.put-line-at.new.out c.loop-i.at (sym c.loop-i.invariant.1) c.loop-i.invariant.2 c.put-line-at.ensures.put in (
+    let next : text (take i lines) ++ line ≡ text (take (i + 1) lines) = ap (λ l. text (take i lines) ++ l) c.sheet_line.ensures ∙ sym (text_on lines i inside) in
+    let put = put_next (text (take i lines)) line old c.loop-i.out c.put_line_at.new.out c.loop-i.at (sym c.loop-i.invariant.1) c.loop-i.invariant.2 c.put_line_at.ensures.put in (
       omega (arith, c.loop-i-test.true, c.len-i-end.ensures),
-      omega (arith, c.put-line-at.ensures.end, c.loop-i.invariant.1, sym (length-append (text (take i lines)) line) ∙ ap length next),
-      put ∙ ap₂ (λ xs n. xs ++ drop n old) next (sym c.put-line-at.ensures.end),
+      omega (arith, c.put_line_at.ensures.end, c.loop-i.invariant.1, sym (length-append (text (take i lines)) line) ∙ ap length next),
+      put ∙ ap₂ (λ xs n. xs ++ drop n old) next (sym c.put_line_at.ensures.end),
     )
 
 pub returns : goal.returns
@@ -45,8 +45,8 @@ returns g c =
     let all = take_all c.loop-i.i lines (omega (arith, c.loop-i-test.false, c.len-i-end.ensures, book.positions.ok.0, whole)) in
     record {
       told = (
-        c.sheet-len-needed.ensures,
-        omega (arith, c.sheet-len-needed.ensures, c.if-out-needed.false),
+        c.sheet_len-needed.ensures,
+        omega (arith, c.sheet_len-needed.ensures, c.if-out-needed.false),
         c.loop-i.invariant.2 ∙ ap₂ (λ xs n. xs ++ drop n old) (ap text all) (c.loop-i.invariant.1 ∙ ap (λ ls. length (text ls)) all),
       );
       readable = readable g.K.Kind.means s g.met.K.Stored.storable book;

@@ -13,7 +13,7 @@ quantity_is : (c : goal.After-from-2) → to_z w128 (of_z w128 c.from.result) �
 quantity_is c = let q : SFits w32 c.args.self.now.quantity = search rules in let e = c.from.ensures in omega (arith, ints)
 
 counted_is : (c : goal.After-from-2) → to_z w128 (of_z w128 c.from-2.result) ≡ pos c.counted.result
-counted_is c = let k = c.from-2.type-inv in to_z-of_z w128 c.from-2.result (omega (arith, ints)) ∙ c.from-2.ensures
+counted_is c = let k = c.from-2.type_inv in to_z-of_z w128 c.from-2.result (omega (arith, ints)) ∙ c.from-2.ensures
 
 product_size : (c : goal.After-from-2) → nat_abs (c.args.self.now.quantity *ℤ pos c.counted.result) ≤ 2 ^ 31 * 2 ^ 32
 product_size c =
@@ -31,8 +31,8 @@ pays_size c =
     let z = c.args.self.now.quantity *ℤ pos c.counted.result in
     omega (arith, product_most z 50 (2 ^ 31 * 2 ^ 32) 50 (product_size c) (omega arith))
 
-pub overflow-mul-result-2 : goal.overflow-mul-result-2
-overflow-mul-result-2 c = subst (λ z. SFits w128 (z *ℤ pos 50)) (sym (product_is c)) (small _ (pays_size c))
+pub overflow_mul-result-2 : goal.overflow_mul-result-2
+overflow_mul-result-2 c = subst (λ z. SFits w128 (z *ℤ pos 50)) (sym (product_is c)) (small _ (pays_size c))
 
 pays_is : (c : goal.After-from-2) → to_z w128 (of_z w128 (to_z w128 (of_z w128 (to_z w128 (of_z w128 c.from.result) *ℤ to_z w128 (of_z w128 c.from-2.result))) *ℤ pos 50)) ≡ (c.args.self.now.quantity *ℤ pos c.counted.result) *ℤ pos 50
 pays_is c = ap (λ z. to_z w128 (of_z w128 (z *ℤ pos 50))) (product_is c) ∙ to_z-of_z w128 _ (small _ (pays_size c))

@@ -5,8 +5,8 @@ use Rattle.sheet.specs.LineTexts.{line_text}
 use Rattle.sheet.proofs.line_buffer.LineBuffer.+push_number.Goals as goal
 use Rattle.sheet.proofs.line_buffer.LineBuffer.+push_number.Goals.{then-n-ge10, else-n-ge10}
 
-pub push-number-requires : goal.push-number-requires
-push-number-requires t c =
+pub push_number-requires : goal.push_number-requires
+push_number-requires t c =
     let n = c.args.n in
     let e = ap length (decimal_step n c.if-n-ge10.true (omega arith)) ∙ length_push (decimal (n / 10)) (48 + n % 10) in
     (search rules, omega (arith, c.requires, e))
@@ -17,7 +17,7 @@ push-requires t c =
     elim c.if-n-ge10.branch [
       | then-n-ge10 w ↦
           let e = ap length (decimal_step n w.if-n-ge10.true (omega arith)) ∙ length_push (decimal (n / 10)) (48 + n % 10) in
-          let k = ap (λ b. length (line_text b)) w.self-is ∙ ap length w.push-number.ensures ∙ length-append (line_text c.args.self.now) (decimal (n / 10)) in
+          let k = ap (λ b. length (line_text b)) w.self-is ∙ ap length w.push_number.ensures ∙ length-append (line_text c.args.self.now) (decimal (n / 10)) in
           omega (arith, c.requires, e, k)
       | else-n-ge10 w ↦
           let k = ap (λ b. length (line_text b)) w.self-is in
@@ -31,7 +31,7 @@ returns t c =
     let last = (48 + n % 10) ∷ [] in
     elim c.if-n-ge10.branch [
       | then-n-ge10 w ↦
-          c.push.ensures ∙ ap (λ b. line_text b ++ last) w.self-is ∙ ap (λ l. l ++ last) w.push-number.ensures ∙ append_assoc old (decimal (n / 10)) last ∙ ap (λ l. old ++ l) (sym (decimal_step n w.if-n-ge10.true (omega arith)))
+          c.push.ensures ∙ ap (λ b. line_text b ++ last) w.self-is ∙ ap (λ l. l ++ last) w.push_number.ensures ∙ append_assoc old (decimal (n / 10)) last ∙ ap (λ l. old ++ l) (sym (decimal_step n w.if-n-ge10.true (omega arith)))
       | else-n-ge10 w ↦
           c.push.ensures ∙ ap (λ b. line_text b ++ last) w.self-is ∙ ap (λ l. old ++ l) (ap (λ d. (48 + d) ∷ []) (omega (arith, w.if-n-ge10.false)) ∙ sym (decimal_digit n w.if-n-ge10.false))
     ]

@@ -9,12 +9,12 @@ signed_minus : (z : ℤ) → z <ℤ pos 0 → signed_decimal z ≡ 45 ∷ decima
 signed_minus (pos n) h = absurd (omega (arith, ints))
 signed_minus (negsuc n) h = refl
 
-pub push-number-requires : goal.push-number-requires
-push-number-requires c =
+pub push_number-requires : goal.push_number-requires
+push_number-requires c =
     let z = c.args.quantity in
     let t = c.if-quantity-lt0.true in
     let b : z <ℤ pos 0 = omega (arith, ints) in
-    let s : c.unsigned-abs.result ≡ nat_abs z = search rules in
+    let s : c.unsigned_abs.result ≡ nat_abs z = search rules in
     omega (arith, c.requires, ap length c.push.ensures, length_push (line_text c.args.self.now) 45, ap length (signed_minus z b), ap (λ n. length (decimal n)) s)
 
 pub returns-then-quantity-lt0 : goal.returns-then-quantity-lt0
@@ -22,6 +22,6 @@ returns-then-quantity-lt0 c =
     let z = c.args.quantity in
     let t = c.if-quantity-lt0.true in
     let b : z <ℤ pos 0 = omega (arith, ints) in
-    let s : c.unsigned-abs.result ≡ nat_abs z = search rules in
+    let s : c.unsigned_abs.result ≡ nat_abs z = search rules in
     let old = line_text c.args.self.now in
-    c.push-number.ensures ∙ ap (λ l. l ++ decimal c.unsigned-abs.result) c.push.ensures ∙ append_assoc old (45 ∷ []) (decimal c.unsigned-abs.result) ∙ ap (λ n. old ++ 45 ∷ decimal n) s ∙ ap (λ l. old ++ l) (sym (signed_minus z b))
+    c.push_number.ensures ∙ ap (λ l. l ++ decimal c.unsigned_abs.result) c.push.ensures ∙ append_assoc old (45 ∷ []) (decimal c.unsigned_abs.result) ∙ ap (λ n. old ++ 45 ∷ decimal n) s ∙ ap (λ l. old ++ l) (sym (signed_minus z b))

@@ -7,15 +7,15 @@ use Rattle.sheet.specs.Forms.{of_forms, good_fields}
 use Rattle.sheet.proofs.Shapes.{not_ended, not_formed, formed, well_length}
 use Rattle.sheet.proofs.reader.Reader.next_line.Goals as goal
 
-pub returns-in-default : goal.returns-in-default
-returns-in-default c =
+pub returns-in_default : goal.returns-in_default
+returns-in_default c =
     let forms = c.args.forms.now in
     let sheet = c.args.self.now.sheet.now in
     let at = c.args.self.now.at in
     let bs = drop at sheet in
     let rest = take (length sheet - at) bs in
     let r : rest ≡ bs = take_rest sheet at in
-    let p = c.in-default.ensures in
+    let p = c.in_default.ensures in
     let a : after 10 bs ≡ None = ap (after 10) (sym r) ∙ p.0 in
     let b : rest ≡ before 10 bs = sym p.1 ∙ ap (before 10) r in
     record {
@@ -55,7 +55,7 @@ returns c =
     let l : take (end - 0) rest ≡ before 10 bs = ap (λ k. take k rest) (sub-zero end) ∙ sym p.1 ∙ ap (before 10) r in
     let n : length (before 10 bs) ≡ end = ap length (sym (ap (before 10) r)) ∙ ap length p.1 ∙ length-take-le end rest short in
     let a : after 10 bs ≡ Some (drop (at + (end + 1)) sheet) = ap (after 10) (sym r) ∙ p.2 ∙ ap (λ x. Some (drop (end + 1) x)) r ∙ ap Some (drop-drop (end + 1) at sheet) in
-    let f = formed forms bs _ a (ap (λ x. of_forms forms (fields x)) (sym l) ∙ c.in-default-check-forms.ensures) in
+    let f = formed forms bs _ a (ap (λ x. of_forms forms (fields x)) (sym l) ∙ c.in_default-check_forms.ensures) in
     record {
       same = refl;
       told = (record { well = f; rest = a; at_is = omega arith; lines_is = refl }, record { bytes_are = l; line_is = refl; offset_is = refl });
