@@ -1,6 +1,7 @@
 -- Every run of a kept book keeps every promise.
 use Rattle.std.proofs.Common.{◌≡◌, ◌≤◌, true, cond, List, length, Some, None, Option, ap, arith}
 use Rattle.std.proofs.lemmas.Bool.{le-ltb}
+use Rattle.kinds.specs.declared.kind.Kind.{Ghosts}
 use Rattle.kinds.specs.Kinds.{Meaning, Lawful}
 use Rattle.book.specs.declared.book.Book.{Book}
 use Rattle.book.specs.declared.call.Call.{Call}
@@ -24,7 +25,7 @@ pub record Rules {C : Type 0} (t : Tally C) : Type 0 where
   pub few : gross t.positions ≤ 10000
   pub held : all_held t.positions ≡ true
 
-pub rules : {C : Type 0} (b : Book C) → Rules (tally_of b)
+pub rules : {C : Type 0} {g : Ghosts C} (b : Book C g) → Rules (tally_of b)
 rules b = record { places_some = b.some; places_most = b.most; within = omega (arith, b.within, b.positions.ok.0); right = b.right; few = b.few; held = b.held }
 
 module _ {C : Type 0} (K : Meaning C) where

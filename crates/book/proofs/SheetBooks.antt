@@ -1,6 +1,7 @@
 -- The sheets of books: what a book reads and writes, by the laws of sheets.
 use Rattle.std.proofs.Common.{◌≡◌, ℕ, ◌≤◌, cond, List, is_some, Ok, Err, Result, sym, ap, ◌∙◌, subst, arith}
 use Rattle.std.specs.Option.{option_map}
+use Rattle.kinds.specs.declared.kind.Kind.{Ghosts}
 use Rattle.kinds.specs.Kinds.{Meaning}
 use Rattle.sheet.specs.StoredKinds.{Storing, Storable}
 use Rattle.book.specs.declared.book.Book.{Book}
@@ -14,7 +15,7 @@ use Rattle.book.proofs.LawfulRuns.{rules, valid}
 use Rattle.book.proofs.SheetRoundTrips.{reads_back, written_back, accepted_valid, accepts_exactly}
 
 module _ {C : Type 0} (K : Meaning C) (s : Storing C) (laws : Storable K s) where
-  pub readable : (b : Book C) → Kept K (tally_of b) → Readable K s (tally_of b)
+  pub readable : {g : Ghosts C} (b : Book C g) → Kept K (tally_of b) → Readable K s (tally_of b)
   readable b k = reads_back K s laws (tally_of b) (valid K (tally_of b) (rules b) k)
 
   pub exactly : (bs : List ℕ) (old new : Tally C) (r : Result (Unit {0}) Refusal) → 1 ≤ old.places → old.places ≤ 128 → SheetRead K s bs old new r → Accepted K s bs old new r

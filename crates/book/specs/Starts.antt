@@ -1,6 +1,7 @@
 -- Starting a book, fresh or from a sheet, and running a list of calls: the whole promise.
 use Rattle.std.specs.Prelude.{◌≡◌, ℕ, cond, List, [], length, take, drop, Some, None, Ok, Err, Option, Result, nat_lt}
 use Rattle.std.specs.Option.{option_map}
+use Rattle.kinds.specs.declared.kind.Kind.{Ghosts}
 use Rattle.kinds.specs.Kinds.{Meaning}
 use Rattle.sheet.specs.StoredKinds.{Storing}
 use Rattle.book.specs.declared.book.Book.{Book}
@@ -40,7 +41,7 @@ replies_refusal calls replies = cond (nat_lt (length replies) (length calls)) (S
 
 -- A book was started with the tally t and ran the calls: every promise of a run holds, and the replies stand at the front of
 -- their places; or it was turned away by the first cause, and places and replies are as they were.
-abbrev pub Started : {C : Type 0} → Meaning C → ℕ → Option Refusal → Tally C → List (Call C) → List Reply → List Reply → Result (Book C) (Refusal × Places C) → Type 0
+abbrev pub Started : {C : Type 0} {g : Ghosts C} → Meaning C → ℕ → Option Refusal → Tally C → List (Call C) → List Reply → List Reply → Result (Book C g) (Refusal × Places C g) → Type 0
 Started K count why t calls old new (Ok b) =
     (or_else (replies_refusal calls old) why ≡ None) × LawfulRun K t calls (take (length calls) new) (tally_of b) × (drop (length calls) new ≡ drop (length calls) old)
 Started K count why t calls old new (Err e) = (or_else (replies_refusal calls old) why ≡ Some e.0) × (e.1.count ≡ count) × (new ≡ old)

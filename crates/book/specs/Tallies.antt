@@ -2,6 +2,7 @@
 use Rattle.std.specs.Prelude.{◌≡◌, ℕ, suc, ◌<◌, ◌≤◌, true, false, cond, not, List, [], ◌∷◌, length, ℤ, Some, None, Ok, Err, vec_items, Option, Result, nat_lt, slice_index_or, unsigned_abs}
 use Rattle.std.specs.Option.{option_map}
 use Rattle.std.specs.List.{AllByRecursion as All}
+use Rattle.kinds.specs.declared.kind.Kind.{Ghosts}
 use Rattle.kinds.specs.Kinds.{Meaning}
 use Rattle.book.specs.declared.book.Book.{Book}
 use Rattle.book.specs.declared.market.Market.{Market}
@@ -17,7 +18,7 @@ pub record Tally (C : Type 0) : Type 0 where
   pub market : Market
   pub positions : List (Position C)
 
-abbrev pub tally_of : {C : Type 0} → Book C → Tally C
+abbrev pub tally_of : {C : Type 0} {g : Ghosts C} → Book C g → Tally C
 tally_of b = record { places = b.places; market = b.market; positions = vec_items b.positions }
 
 -- No contract is held twice.

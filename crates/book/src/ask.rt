@@ -47,7 +47,7 @@ impl<K: Kind> Book<K> {
 
     // The protected value at a price, in hundredths of a point × contracts.
     pub fn value(&self, price: u32) -> Result<i64, Refusal>
-        ensures { ValueTold means (tally_of self.now) price result }
+        ensures { ValueTold K.means (tally_of self.now) price result }
     {
         if price > self.market.ceiling {
             return Err(Refusal::AboveCeiling);
@@ -57,14 +57,14 @@ impl<K: Kind> Book<K> {
 
     // The minimum margin in centavos, and the lowest price at which the loss is greatest, if some loss is above zero.
     pub fn minimum(&self) -> (u64, Option<u32>)
-        ensures { Kept means (tally_of self.now) → Margin (loss means (variation_of self.now.market) (price_unit self.now.market) (tally_of self.now).positions) result.0 result.1 }
+        ensures { Kept K.means (tally_of self.now) → Margin (loss K.means (variation_of self.now.market) (price_unit self.now.market) (tally_of self.now).positions) result.0 result.1 }
     {
         minimum_margin(self.positions.as_slice(), &self.market)
     }
 
     // The required margin in centavos: it also covers the book's loss in every scenario of the table.
     pub fn required(&self, scenarios: usize, table: &[u32]) -> Result<u64, Refusal>
-        ensures { RequiredTold means (tally_of self.now) scenarios table.now result }
+        ensures { RequiredTold K.means (tally_of self.now) scenarios table.now result }
     {
         if scenarios < 1 || scenarios > 405 {
             return Err(Refusal::Scenarios);

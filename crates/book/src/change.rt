@@ -10,7 +10,7 @@ use kinds::Kind;
 
 impl<K: Kind> Book<K> {
     pub fn change(&mut self, market: Market) -> Result<(), Refusal>
-        ensures { Told (change_refusal means (tally_of self.old) market) (tally_of self.old) (in_market (tally_of self.old) market) (tally_of self.new) result }
+        ensures { Told (change_refusal K.means (tally_of self.old) market) (tally_of self.old) (in_market (tally_of self.old) market) (tally_of self.new) result }
     {
         if let Some(refusal) = market.refusal() {
             return Err(refusal);

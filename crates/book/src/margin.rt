@@ -35,7 +35,7 @@ pub(crate) fn minimum_margin<K: Kind>(
 ) -> (u64, Option<u32>)
     requires few { gross positions.now ≤ 10000 }
     requires right { IsMarket market.now }
-    ensures { Sound means (variation_of market.now) market.now.ceiling positions.now → Margin (loss means (variation_of market.now) (price_unit market.now) positions.now) result.0 result.1 }
+    ensures { Sound K.means (variation_of market.now) market.now.ceiling positions.now → Margin (loss K.means (variation_of market.now) (price_unit market.now) positions.now) result.0 result.1 }
 {
     let found = worst_price(positions, market.variation());
     let loss = exact_loss(found.gain, market.price_unit());

@@ -21,7 +21,7 @@ fn settled(res: Result<(), Refusal>) -> Reply
 
 impl<K: Kind> Book<K> {
     pub(crate) fn step(&mut self, call: &Call<K>) -> Reply
-        ensures { Step means (tally_of self.old) call.now result (tally_of self.new) }
+        ensures { Step K.means (tally_of self.old) call.now result (tally_of self.new) }
     {
         match call {
             Call::Trade(contract, quantity) => settled(self.trade(*contract, *quantity)),
@@ -40,8 +40,8 @@ impl<K: Kind> Book<K> {
     // Makes each call in turn, where there are places for the replies.
     pub(crate) fn run_all(&mut self, calls: &[Call<K>], replies: &mut [Reply])
         requires { length calls.now ≤ length replies.old }
-        ensures run { Run means (tally_of self.old) calls.now (take (length calls.now) replies.new) (tally_of self.new) }
-        ensures law { Kept means (tally_of self.old) → LawfulRun means (tally_of self.old) calls.now (take (length calls.now) replies.new) (tally_of self.new) }
+        ensures run { Run K.means (tally_of self.old) calls.now (take (length calls.now) replies.new) (tally_of self.new) }
+        ensures law { Kept K.means (tally_of self.old) → LawfulRun K.means (tally_of self.old) calls.now (take (length calls.now) replies.new) (tally_of self.new) }
         ensures rest { drop (length calls.now) replies.new ≡ drop (length calls.now) replies.old }
     {
         for (i, call) in calls.iter().enumerate() {
@@ -51,8 +51,8 @@ impl<K: Kind> Book<K> {
 
     // Makes each call in turn. Too few places for the replies are refused with the number needed, and nothing is called.
     pub fn run(&mut self, calls: &[Call<K>], replies: &mut [Reply]) -> Result<(), Refusal>
-        ensures ran { Ran means (tally_of self.old) calls.now replies.old replies.new (tally_of self.new) result }
-        ensures law { RanLawfully means (tally_of self.old) calls.now replies.new (tally_of self.new) result }
+        ensures ran { Ran K.means (tally_of self.old) calls.now replies.old replies.new (tally_of self.new) result }
+        ensures law { RanLawfully K.means (tally_of self.old) calls.now replies.new (tally_of self.new) result }
     {
         if replies.len() < calls.len() {
             return Err(Refusal::Buffer(calls.len()));

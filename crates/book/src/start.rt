@@ -45,7 +45,7 @@ impl<K: Kind> Book<K> {
         calls: &[Call<K>],
         replies: &mut [Reply],
     ) -> Result<Book<K>, (Refusal, Places<K>)>
-        ensures { Started means places.count (open_refusal places.count market) (fresh places.count market) calls.now replies.old replies.new result }
+        ensures { Started K.means places.count (open_refusal places.count market) (fresh places.count market) calls.now replies.old replies.new result }
     {
         if replies.len() < calls.len() {
             return Err((Refusal::Buffer(calls.len()), places));

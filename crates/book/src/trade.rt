@@ -86,7 +86,7 @@ impl<K: Kind> Book<K> {
 
     // A trade of so many contracts: a positive quantity buys, a negative one sells.
     pub fn trade(&mut self, contract: K, quantity: i32) -> Result<(), Refusal>
-        ensures { Told (trade_refusal means (tally_of self.old) contract quantity) (tally_of self.old) (holding (tally_of self.old) (traded means contract quantity self.old.positions.items)) (tally_of self.new) result }
+        ensures { Told (trade_refusal K.means (tally_of self.old) contract quantity) (tally_of self.old) (holding (tally_of self.old) (traded K.means contract quantity self.old.positions.items)) (tally_of self.new) result }
     {
         if quantity == 0 || quantity.unsigned_abs() > 10_000 {
             return Err(Refusal::Quantity);

@@ -10,7 +10,7 @@ pub(crate) fn first_unfit<K: Kind>(
     variation: u32,
     ceiling: u32,
 ) -> Option<usize>
-    ensures { result ≡ first_unfit means variation ceiling positions.now }
+    ensures { result ≡ first_unfit K.means variation ceiling positions.now }
 {
     for (i, position) in positions.iter().enumerate() {
         if !position.contract.fits(variation, ceiling) {

@@ -11,7 +11,7 @@ use kinds::{Corners, Kind};
 
 // The corners of a position: under the variation if it is sold, plain if it is bought.
 fn corners_of<K: Kind>(position: &Position<K>, variation: u32) -> Corners
-    ensures { (u : ℕ) → means.fits position.now.contract variation u ≡ true → u ≤ 20000000 → prices result ≡ told means variation position.now.contract position.now.net }
+    ensures { (u : ℕ) → K.means.fits position.now.contract variation u ≡ true → u ≤ 20000000 → prices result ≡ told K.means variation position.now.contract position.now.net }
 {
     if position.net < 0 {
         position.contract.corners_under(variation)
@@ -23,7 +23,7 @@ fn corners_of<K: Kind>(position: &Position<K>, variation: u32) -> Corners
 // The worse of what was found so far and a price: the greater loss, and on a tie the lower price.
 fn worse<K: Kind>(positions: &[Position<K>], variation: u32, found: Found, price: u32) -> Found
     requires { gross positions.now ≤ 10000 }
-    ensures { (u : ℕ) → Sound means variation u positions.now → Finds means variation u positions.now found → price ≤ u → Finds means variation u positions.now result × Leads (lost means variation positions.now) result.price (found.price ∷ price ∷ []) }
+    ensures { (u : ℕ) → Sound K.means variation u positions.now → Finds K.means variation u positions.now found → price ≤ u → Finds K.means variation u positions.now result × Leads (lost K.means variation positions.now) result.price (found.price ∷ price ∷ []) }
 {
     let gain = protected_value(positions, variation, price);
     if gain < found.gain || gain == found.gain && price < found.price {
@@ -41,7 +41,7 @@ fn worst_corner<K: Kind>(
     corners: Corners,
 ) -> Found
     requires { gross positions.now ≤ 10000 }
-    ensures { (u : ℕ) → Sound means variation u positions.now → Finds means variation u positions.now found → Under u (prices corners) → Finds means variation u positions.now result × Leads (lost means variation positions.now) result.price (found.price ∷ prices corners) }
+    ensures { (u : ℕ) → Sound K.means variation u positions.now → Finds K.means variation u positions.now found → Under u (prices corners) → Finds K.means variation u positions.now result × Leads (lost K.means variation positions.now) result.price (found.price ∷ prices corners) }
 {
     match corners {
         Corners::Zero => found,
@@ -58,7 +58,7 @@ fn worst_corner<K: Kind>(
 // The lowest whole price at which the book loses most, and what it is worth there.
 pub(crate) fn worst_price<K: Kind>(positions: &[Position<K>], variation: u32) -> Found
     requires { gross positions.now ≤ 10000 }
-    ensures { (u : ℕ) → Sound means variation u positions.now → Finds means variation u positions.now result × Worst (lost means variation positions.now) result.price }
+    ensures { (u : ℕ) → Sound K.means variation u positions.now → Finds K.means variation u positions.now result × Worst (lost K.means variation positions.now) result.price }
 {
     let mut found = Found {
         price: 0,

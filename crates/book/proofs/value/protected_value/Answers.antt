@@ -31,7 +31,7 @@ worth_is : (g : given.Over) (c : goal.After-worth-sum g) → to_z w64 (of_z w64 
 worth_is g c = let o = c.worth-sum.type_inv in to_z-of_z w64 c.worth-sum.result (omega (arith, ints))
 
 pub overflow_add-sum : goal.overflow_add-sum
-overflow_add-sum g c = subst (SFits w64) (sym (ap₂ (λ a b. a +ℤ b) c.loop-position.sum_is (worth_is g c))) (small g c)
+overflow_add-sum g c = subst (SFits w64) (sym (ap₂ (λ a b. a +ℤ b) c.loop-position.sum-is (worth_is g c))) (small g c)
 
 sum_is : (g : given.Over) (c : goal.After-worth-sum g) (z : ℤ) → z ≡ c.loop-position.sum → to_z w64 (of_z w64 (z +ℤ to_z w64 (of_z w64 c.worth-sum.result))) ≡ c.loop-position.sum +ℤ c.worth-sum.result
 sum_is g c z e = ap (λ y. to_z w64 (of_z w64 y)) (ap₂ (λ a b. a +ℤ b) e (worth_is g c)) ∙ to_z-of_z w64 _ (small g c)
@@ -44,10 +44,10 @@ loop-position-preserved g c =
     let i = c.loop-position.position-index in
     let p = c.position-item.result in (
       omega (arith, c.loop-position-test.true),
-      subst (λ z. nat_abs z ≤ gross (take (i + 1) ps) * 4294967295) (sym (sum_is g c _ c.loop-position.sum_is)) (size g c),
+      subst (λ z. nat_abs z ≤ gross (take (i + 1) ps) * 4294967295) (sym (sum_is g c _ c.loop-position.sum-is)) (size g c),
       λ u s l.
           let f = item_fits K v u ps i p c.loop-position-test.true c.position-item.is s.fitting in
-          sum_is g c _ c.loop-position.sum_is ∙ ap₂ (λ a b. a +ℤ b) (sym c.loop-position.sum_is ∙ c.loop-position.invariant.2 u s l) (c.worth-sum.ensures.exact u f l s.low) ∙ sym (value_more K v c.args.price ps i p c.loop-position-test.true c.position-item.is),
+          sum_is g c _ c.loop-position.sum-is ∙ ap₂ (λ a b. a +ℤ b) (sym c.loop-position.sum-is ∙ c.loop-position.invariant.2 u s l) (c.worth-sum.ensures.exact u f l s.low) ∙ sym (value_more K v c.args.price ps i p c.loop-position-test.true c.position-item.is),
     )
 
 pub returns : goal.returns

@@ -33,25 +33,16 @@ invariant_of-self g c =
     let n = net_small ps i p c.requires.within c.index.ensures old.few in
     let zero : p.net +ℤ q ≡ pos 0 = sym (sum_is p.net q n c.requires.small) ∙ ap (to_z w32) c.if-net-eq0.true in
     let items = c.remove.ensures.items ∙ sym (at_zero ps i p q zero) in
-    let few = subst (λ o. gross (traded_at ps i o q) ≤ 10000) (sym c.index.ensures) (c.requires.few p) in (
-      old.some,
-      (
-        old.most,
-        (
-          omega (arith, old.within, c.remove.ensures.len),
-          (
-            omega (arith, old.room, c.remove.ensures.capacity),
-            (
-              old.right,
-              (
-                omega (arith, ap gross items, few),
-                (ap all_held items ∙ at_held ps i p q old.held, (old.spare, tt)),
-              ),
-            ),
-          ),
-        ),
-      ),
-    )
+    let few = subst (λ o. gross (traded_at ps i o q) ≤ 10000) (sym c.index.ensures) (c.requires.few p) in record {
+      some = old.some;
+      most = old.most;
+      within = omega (arith, old.within, c.remove.ensures.len);
+      room = omega (arith, old.room, c.remove.ensures.capacity);
+      right = old.right;
+      few = omega (arith, ap gross items, few);
+      held = ap all_held items ∙ at_held ps i p q old.held;
+      spare = old.spare;
+    }
 
 -- a sum that is not 0 in 32 bits is not zero
 sum_some : (x q : ℤ) → nat_abs x ≤ 10000 → nat_abs q ≤ 10000 → (of_z w32 (to_z w32 (of_z w32 x) +ℤ to_z w32 (of_z w32 q)) ≡ 0 → ⊥) → 1 ≤ nat_abs (x +ℤ q)
@@ -76,25 +67,16 @@ invariant_of-self-else-net-eq0 g c =
     let n = net_small ps i p c.requires.within c.index.ensures old.few in
     let some = sum_some p.net q n c.requires.small c.if-net-eq0.false in
     let items = set_is ps i p c.index_mut.result.now q _ c.requires.within c.index.ensures c.index_mut.ensures.value (sum_is p.net q n c.requires.small) some in
-    let few = subst (λ o. gross (traded_at ps i o q) ≤ 10000) (sym c.index.ensures) (c.requires.few p) in (
-      old.some,
-      (
-        old.most,
-        (
-          old.within,
-          (
-            old.room,
-            (
-              old.right,
-              (
-                omega (arith, ap gross items, few),
-                (ap all_held items ∙ at_held ps i p q old.held, (old.spare, tt)),
-              ),
-            ),
-          ),
-        ),
-      ),
-    )
+    let few = subst (λ o. gross (traded_at ps i o q) ≤ 10000) (sym c.index.ensures) (c.requires.few p) in record {
+      some = old.some;
+      most = old.most;
+      within = old.within;
+      room = old.room;
+      right = old.right;
+      few = omega (arith, ap gross items, few);
+      held = ap all_held items ∙ at_held ps i p q old.held;
+      spare = old.spare;
+    }
 
 pub returns-else-net-eq0 : goal.returns-else-net-eq0
 returns-else-net-eq0 g c = λ d.

@@ -10,22 +10,13 @@ invariant_of-self g c =
     let old = c.args.self.now in
     let ps = vec_items old.positions in
     let x : Position g.row.K.Denot = record { contract = c.args.contract; net = c.args.quantity } in
-    let items : vec_items c.push_reserved.new.self ≡ ps ++ x ∷ [] = search rules in (
-      old.some,
-      (
-        old.most,
-        (
-          omega (arith, c.requires.room, c.push_reserved.ensures.len),
-          (
-            search rules,
-            (
-              old.right,
-              (
-                omega (arith, ap gross items, gross_append ps (x ∷ []), c.requires.few),
-                (ap all_held items ∙ held_append ps (x ∷ []) old.held (and_from (leb 1 (nat_abs c.args.quantity)) true (le-leb 1 (nat_abs c.args.quantity) c.requires.some) refl), (old.spare, tt)),
-              ),
-            ),
-          ),
-        ),
-      ),
-    )
+    let items : vec_items c.push_reserved.new.self ≡ ps ++ x ∷ [] = search rules in record {
+      some = old.some;
+      most = old.most;
+      within = omega (arith, c.requires.room, c.push_reserved.ensures.len);
+      room = search rules;
+      right = old.right;
+      few = omega (arith, ap gross items, gross_append ps (x ∷ []), c.requires.few);
+      held = ap all_held items ∙ held_append ps (x ∷ []) old.held (and_from (leb 1 (nat_abs c.args.quantity)) true (le-leb 1 (nat_abs c.args.quantity) c.requires.some) refl);
+      spare = old.spare;
+    }

@@ -9,25 +9,16 @@ use Rattle.book.proofs.book.Book.open.Goals as goal
 pub invariant_of-result : goal.invariant_of-result
 invariant_of-result g c =
     let places = c.args.places in
-    let e : vec_items places.positions ≡ [] = nil_from_length _ (sym places.positions.ok.0 ∙ places.empty) in (
-      c.if-places-lt1.false,
-      (
-        c.if-places-gt128.false,
-        (
-          omega (arith, places.empty),
-          (
-            omega (arith, places.room),
-            (
-              ap is_some (sym c.refusal.ensures ∙ c.in_default.is),
-              (
-                omega (arith, ap gross e),
-                (ap all_held e, (omega (arith, places.spare), tt)),
-              ),
-            ),
-          ),
-        ),
-      ),
-    )
+    let e : vec_items places.positions ≡ [] = nil_from_length _ (sym places.positions.ok.0 ∙ places.empty) in record {
+      some = c.if-places-lt1.false;
+      most = c.if-places-gt128.false;
+      within = omega (arith, places.empty);
+      room = omega (arith, places.room);
+      right = ap is_some (sym c.refusal.ensures ∙ c.in_default.is);
+      few = omega (arith, ap gross e);
+      held = ap all_held e;
+      spare = omega (arith, places.spare);
+    }
 
 pub returns : goal.returns
 returns g c =

@@ -7,27 +7,27 @@ use Rattle.book.proofs.LawfulRuns.{enough}
 use Rattle.book.proofs.ReadingLines.{handed_on}
 use Rattle.book.proofs.book.Book.start.Goals as goal
 
-pub returns-in_err-book : goal.returns-in_err-book
-returns-in_err-book g c =
+pub returns-in_err-book-in-Sheet : goal.returns-in_err-book-in-Sheet
+returns-in_err-book-in-Sheet g c =
     let K = g.K.Kind.means in
     let s = g.K.Stored.stored in
     let count = c.args.places.count in
     let calls = c.args.calls.now in
     let replies = c.args.replies.now in
-    let o = c.in_err-book.ensures in
-    let r = handed_on c.from_residual.result c.in_err-book.field-0.0 c.from_residual.ensures.1 in
-    let no : Started K count (start_refusal K s count (Sheet c.in-Sheet.sheet)) (started s count (Sheet c.in-Sheet.sheet)) calls replies replies (Err c.in_err-book.field-0.0) =
+    let o = c.in_err-book-in-Sheet.ensures in
+    let r = handed_on c.from_residual.result c.in_err-book-in-Sheet.field-0.0 c.from_residual.ensures.1 in
+    let no : Started K count (start_refusal K s count (Sheet c.in-Sheet.sheet)) (started s count (Sheet c.in-Sheet.sheet)) calls replies replies (Err c.in_err-book-in-Sheet.field-0.0) =
     (enough calls replies (start_refusal K s count (Sheet c.in-Sheet.sheet)) c.if-replies-calls.false ∙ o.0, o.1, refl) in
     subst (λ st. Started K count (start_refusal K s count st) (started s count st) calls replies replies c.from_residual.result) (sym c.in-Sheet.is) (subst (Started K count (start_refusal K s count (Sheet c.in-Sheet.sheet)) (started s count (Sheet c.in-Sheet.sheet)) calls replies replies) (sym r) no)
 
-pub returns-in_ok-book : goal.returns-in_ok-book
-returns-in_ok-book g c =
+pub returns-in_ok-book-in-Sheet : goal.returns-in_ok-book-in-Sheet
+returns-in_ok-book-in-Sheet g c =
     let K = g.K.Kind.means in
     let s = g.K.Stored.stored in
     let count = c.args.places.count in
     let calls = c.args.calls.now in
     let replies = c.args.replies.now in
-    let o = c.in_ok-book.ensures in
+    let o = c.in_ok-book-in-Sheet.ensures in
     let yes : Started K count (start_refusal K s count (Sheet c.in-Sheet.sheet)) (started s count (Sheet c.in-Sheet.sheet)) calls replies c.run_all.new.replies (Ok c.run_all.new.self) = (
       enough calls replies (start_refusal K s count (Sheet c.in-Sheet.sheet)) c.if-replies-calls.false ∙ o.0,
       subst (λ t. LawfulRun K t calls (take (length calls) c.run_all.new.replies) (tally_of c.run_all.new.self)) o.1 (c.run_all.ensures.law o.2.kept),

@@ -7,8 +7,8 @@ use Rattle.book.proofs.SheetBooks.{readable}
 use Rattle.book.proofs.JoinedLines.{text, text_on, text_most, put_next}
 use Rattle.book.proofs.book.Book.write.Goals as goal
 
-pub put_line_at-requires : goal.put_line_at-requires
-put_line_at-requires g c =
+pub put_line-at-requires : goal.put_line-at-requires
+put_line-at-requires g c =
     let s = g.K.Stored.stored in
     let book = c.args.self.now in
     let lines = sheet_lines s (tally_of book) in
@@ -29,10 +29,10 @@ loop-i-preserved g c =
     let whole = length-map (vec_items book.positions) (position_line s) in
     let inside : i < length lines = omega (arith, c.loop-i-test.true, c.len-i-end.ensures, book.positions.ok.0, whole) in
     let next : text (take i lines) ++ line ≡ text (take (i + 1) lines) = ap (λ l. text (take i lines) ++ l) c.sheet_line.ensures ∙ sym (text_on lines i inside) in
-    let put = put_next (text (take i lines)) line old c.loop-i.out c.put_line_at.new.out c.loop-i.at (sym c.loop-i.invariant.1) c.loop-i.invariant.2 c.put_line_at.ensures.put in (
+    let put = put_next (text (take i lines)) line old c.loop-i.out c.put_line-at.new.out c.loop-i.at (sym c.loop-i.invariant.1) c.loop-i.invariant.2 c.put_line-at.ensures.put in (
       omega (arith, c.loop-i-test.true, c.len-i-end.ensures),
-      omega (arith, c.put_line_at.ensures.end, c.loop-i.invariant.1, sym (length-append (text (take i lines)) line) ∙ ap length next),
-      put ∙ ap₂ (λ xs n. xs ++ drop n old) next (sym c.put_line_at.ensures.end),
+      omega (arith, c.put_line-at.ensures.end, c.loop-i.invariant.1, sym (length-append (text (take i lines)) line) ∙ ap length next),
+      put ∙ ap₂ (λ xs n. xs ++ drop n old) next (sym c.put_line-at.ensures.end),
     )
 
 pub returns : goal.returns
