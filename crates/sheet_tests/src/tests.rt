@@ -212,7 +212,7 @@ fn lines_written(rt: HostRuntime) {
         ),
         Ok(13)
     );
-    assert!(rt; &out[0..14] == b"C 380000 -30\nx");
+    assert!(rt; &out[0..14] == b"C 380000 -30\nx".as_slice());
     assert_eq!(rt;
         write_position(
             &mut out,
@@ -225,9 +225,9 @@ fn lines_written(rt: HostRuntime) {
         ),
         Ok(12)
     );
-    assert!(rt; &out[0..13] == b"P 5 - 10000\n\n");
+    assert!(rt; &out[0..13] == b"P 5 - 10000\n\n".as_slice());
     assert_eq!(rt; write_head(&mut out, Word::Positions, 128), Ok(14));
-    assert!(rt; &out[0..15] == b"positions 128\nx");
+    assert!(rt; &out[0..15] == b"positions 128\nx".as_slice());
 }
 
 #[test]
