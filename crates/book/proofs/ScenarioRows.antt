@@ -1,5 +1,5 @@
 -- The value of a row of scenario values, position by position, and how large it is.
-use Rattle.std.proofs.Common.{◌≡◌, ℕ, zero, suc, ◌+◌, ◌*◌, ◌<◌, ◌≤◌, List, [], ◌∷◌, length, get_or, take, ℤ, pos, ◌+ℤ◌, ◌*ℤ◌, nat_abs, ap, ◌∙◌, le_refl, add-mul, add-one, arith}
+use Rattle.std.proofs.Common.{◌≡◌, ℕ, zero, suc, ◌+◌, ◌*◌, ◌<◌, ◌≤◌, List, [], ◌∷◌, length, get_or, take, pos, ◌+ℤ◌, ◌*ℤ◌, nat_abs, ap, ◌∙◌, le_refl, add-mul, add-one, arith}
 use borrow.Author.Differences.{ints}
 use Rattle.book.specs.declared.position.Position.{Position}
 use Rattle.book.specs.Losses.{gross}

@@ -9,7 +9,6 @@ use Rattle.sheet.specs.declared.form.Word.TheVariants as word
 use Rattle.sheet.specs.Decimals.{read_on}
 use Rattle.sheet.specs.Forms.{head_forms, well_formed, fault_field}
 use Rattle.sheet.specs.ReadLines.{number_forms}
-use Rattle.book.specs.declared.market.Market.{Market}
 use Rattle.book.specs.Markets.{outside, IsMarket}
 use Rattle.book.specs.SheetReading.{after_lines, field_at, number_at, market_told, or_fault, malformed, when, number_fault, market_fault}
 use Rattle.book.proofs.SheetLines.{Tells}

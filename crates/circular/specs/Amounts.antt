@@ -1,5 +1,5 @@
 -- Amounts in hundredths as text.
-use Rattle.std.specs.Prelude.{◌≡◌, ℕ, ◌/◌, ◌%◌, ◌<◌, ◌≤◌, List, [], ◌∷◌, ◌++◌, ℤ, pos, negsuc, codes, decimal, unsigned_abs}
+use Rattle.std.specs.Prelude.{◌≡◌, ℕ, ◌/◌, ◌%◌, ◌<◌, ◌≤◌, List, [], ◌++◌, ℤ, pos, negsuc, codes, decimal, unsigned_abs}
 
 -- The digits of n with a comma before each three from the right.
 pub data Grouped : ℕ → List ℕ → Type 0 where

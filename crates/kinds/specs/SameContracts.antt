@@ -1,7 +1,7 @@
 -- The six rules for a kind in which the same contracts are equal ones, from the rules of one contract that fits.
 use Rattle.std.specs.Prelude.{◌≡◌, ℕ, ◌≤◌, min, true, refl}
 use Rattle.std.proofs.Common.{subst}
-use Rattle.kinds.specs.Kinds.{Meaning, Lawful, Sameness, Agree, Few, StraightOff}
+use Rattle.kinds.specs.Kinds.{Meaning, Lawful, Agree, Few, StraightOff}
 
 -- The first five rules, of one contract under one variation and ceiling.
 pub record Keeps {C : Type 0} (m : Meaning C) (c : C) (v u : ℕ) : Type 0 where

@@ -1,5 +1,5 @@
 -- The fields of a line in their places.
-use Rattle.std.proofs.Common.{◌≡◌, ℕ, ◌+◌, List, [], ◌∷◌, map, length, sym, refl, ap, ◌∙◌, subst, ap₂, arith}
+use Rattle.std.proofs.Common.{◌≡◌, ℕ, ◌+◌, List, [], ◌∷◌, length, sym, refl, ap, ◌∙◌, subst, arith}
 use Rattle.sheet.specs.declared.field.Field.{Field}
 use Rattle.sheet.specs.Cuts.{fields}
 use Rattle.sheet.specs.FirstFields.{Cut}

@@ -1,5 +1,5 @@
 -- Flexible options keep the laws of a stored kind.
-use Rattle.std.specs.Prelude.{◌≡◌, ℕ, ◌+◌, ◌≤◌, Bool, true, false, cond, ◌&&◌, ◌||◌, List, [], ◌∷◌, ◌++◌, length, ℤ, is_some, Some, None, Ok, Err, decimal, Option, nat_le, nat_lt, refl}
+use Rattle.std.specs.Prelude.{◌≡◌, ℕ, ◌≤◌, Bool, true, false, cond, ◌&&◌, ◌||◌, List, [], ◌∷◌, ◌++◌, length, is_some, Some, None, Ok, Err, decimal, Option, nat_le, nat_lt, refl}
 use Rattle.std.proofs.Common.{sym, ap, ap₂, ◌∙◌, subst, ⊎_elim, arith, length-append}
 use Rattle.std.specs.Option.{option_map}
 use Rattle.std.specs.Fmt.{signed_decimal}
@@ -17,7 +17,7 @@ use Rattle.sheet.specs.declared.form.Form.TheVariants.{Limiter}
 use Rattle.sheet.specs.Decimals.{number_of}
 use Rattle.sheet.specs.ListedLines.{letter, side_of}
 use Rattle.sheet.specs.FlexibleLines.{limiter_of, limiter_text, with_limiter, flexible_of, flexible_stored, refused}
-use Rattle.sheet.specs.StoredKinds.{ContractText, Storable, limiter_formed}
+use Rattle.sheet.specs.StoredKinds.{Storable, limiter_formed}
 use Rattle.sheet.specs.Numerals.{own}
 use Rattle.sheet.specs.Letters.{side_formed, side_reads, side_writes, short_reads, short_writes, short_length, strike_low}
 

@@ -1,5 +1,5 @@
 -- Listed options keep the laws of a stored kind.
-use Rattle.std.specs.Prelude.{◌≡◌, ℕ, ◌+◌, ◌≤◌, Bool, true, false, cond, ◌&&◌, List, [], ◌∷◌, ◌++◌, length, ℤ, is_some, Some, None, decimal, Option, refl}
+use Rattle.std.specs.Prelude.{◌≡◌, ℕ, true, cond, ◌&&◌, List, [], ◌∷◌, ◌++◌, is_some, Some, None, decimal, Option, refl}
 use Rattle.std.proofs.Common.{sym, ap, ap₂, ◌∙◌, arith, length-append}
 use Rattle.std.specs.Fmt.{signed_decimal}
 use Rattle.std.proofs.lemmas.Bool.{and_parts}
@@ -10,7 +10,7 @@ use Rattle.kinds.specs.ListedOptions.{listed}
 use Rattle.kinds.specs.declared.contract_refusal.ContractRefusal.TheVariants.{Strike}
 use Rattle.sheet.specs.Decimals.{number_of}
 use Rattle.sheet.specs.ListedLines.{letter, side_of, listed_of, listed_stored}
-use Rattle.sheet.specs.StoredKinds.{ContractText, Storable, limiter_formed, position_bytes}
+use Rattle.sheet.specs.StoredKinds.{Storable, limiter_formed}
 use Rattle.sheet.specs.Letters.{side_formed, side_reads, side_writes, short_reads, short_writes, short_length, strike_low}
 
 formed : (s : Option Side) (k : Option ℕ) (l : Option (List ℕ)) → is_some (listed_of s k l) ≡ (is_some s && (is_some k && limiter_formed None l))

@@ -3,7 +3,6 @@ use Rattle.std.specs.Prelude.{ℕ, cond, List, [], ◌∷◌, Some, None, decima
 use Rattle.kinds.specs.declared.side.Side.{Side}
 use Rattle.kinds.specs.declared.side.Side.TheVariants.{Call, Put}
 use Rattle.kinds.specs.declared.listed.Listed.{Listed}
-use Rattle.kinds.specs.declared.contract_refusal.ContractRefusal.{ContractRefusal}
 use Rattle.kinds.specs.declared.contract_refusal.ContractRefusal.TheVariants.{Strike}
 use Rattle.kinds.specs.Sides.{strike_right}
 use Rattle.sheet.specs.Decimals.{number_of}

@@ -1,4 +1,4 @@
-use Rattle.std.proofs.Common.{◌≡◌, ◌/◌, ◌%◌, List, ◌++◌, IfOk, string_bytes, codes, decimal, sym, subst, rules}
+use Rattle.std.proofs.Common.{◌≡◌, ◌/◌, ◌%◌, ◌++◌, IfOk, string_bytes, codes, decimal, sym, subst, rules}
 use Rattle.std.proofs.lemmas.Result.{IfOk-weaker}
 use Rattle.circular.specs.Amounts.{Grouped, below, above}
 use Rattle.circular.proofs.amount.+grouped.Goals as goal

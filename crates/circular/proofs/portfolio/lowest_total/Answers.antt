@@ -1,4 +1,4 @@
-use Rattle.std.proofs.Common.{◌≡◌, get_or, take, sym, ap, ◌∙◌, ap₂, arith, take_all, to_z, of_z}
+use Rattle.std.proofs.Common.{sym, ap, ◌∙◌, ap₂, arith, take_all}
 use mir.Syntax.{w128}
 use borrow.Author.Differences.{ints}
 use Rattle.std.specs.Int.{int_min}

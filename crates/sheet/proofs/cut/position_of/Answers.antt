@@ -1,4 +1,4 @@
-use Rattle.std.proofs.Common.{◌≡◌, [], ◌++◌, take, drop, sym, refl, ap, ◌∙◌, take_all}
+use Rattle.std.proofs.Common.{◌≡◌, [], ◌++◌, take, drop, sym, ap, ◌∙◌, take_all}
 use Rattle.std.proofs.lemmas.List.{append-nil, drop_all}
 use Rattle.sheet.specs.Cuts.{before, after}
 use Rattle.sheet.proofs.Marks.{before_at, after_at, before_step, after_past}

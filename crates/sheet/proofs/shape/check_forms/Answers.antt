@@ -1,4 +1,4 @@
-use Rattle.std.proofs.Common.{◌≡◌, ℕ, suc, ◌+◌, ◌^◌, ◌<◌, ◌≤◌, true, false, List, [], ◌∷◌, length, drop, is_some, IfSome, Some, None, Option, sym, refl, ap, ◌∙◌, subst, ap₂, arith, rules}
+use Rattle.std.proofs.Common.{◌≡◌, ℕ, ◌+◌, ◌^◌, ◌<◌, ◌≤◌, true, false, List, [], ◌∷◌, length, drop, is_some, IfSome, Some, None, Option, sym, refl, ap, ◌∙◌, subst, ap₂, arith}
 use Rattle.std.specs.Option.{option_map}
 use Rattle.sheet.specs.declared.form.Form.{Form}
 use Rattle.sheet.specs.declared.form.Form.TheVariants.{Five}
@@ -6,7 +6,7 @@ use Rattle.sheet.specs.declared.field.Field.{Field}
 use Rattle.sheet.specs.Cuts.{before, after, fields, fields_left}
 use Rattle.sheet.specs.Forms.{of_forms, good_fields}
 use Rattle.sheet.proofs.Marks.{fields_cut}
-use Rattle.sheet.proofs.Shapes.{Fails, Goes_on, missing, bad, right, too_many, all_there, good_most}
+use Rattle.sheet.proofs.Shapes.{Fails, missing, bad, right, too_many, all_there, good_most}
 use Rattle.sheet.proofs.shape.check_forms.Goals as goal
 
 -- what is left of the line, as fields

@@ -1,7 +1,7 @@
-use Rattle.std.proofs.Common.{◌≡◌, ◌+◌, ◌∷◌, length, IfSome, Option, sym, refl, ap, ◌∙◌, subst, ap₂, arith}
+use Rattle.std.proofs.Common.{◌≡◌, ◌+◌, ◌∷◌, length, IfSome, Option, sym, ap, ◌∙◌, subst, ap₂, arith}
 use Rattle.std.specs.Option.{option_map}
 use Rattle.sheet.specs.declared.field.Field.{Field}
-use Rattle.sheet.specs.Cuts.{before, after, fields, fields_left}
+use Rattle.sheet.specs.Cuts.{before, fields_left}
 use Rattle.sheet.proofs.Marks.{fields_cut}
 use Rattle.sheet.proofs.shape.first_and_rest.Goals as goal
 

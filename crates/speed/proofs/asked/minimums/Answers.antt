@@ -1,4 +1,4 @@
-use Rattle.std.proofs.Common.{◌≡◌, ◌+◌, ◌*◌, ◌%◌, ◌^◌, unwrap_or, sym, ap, ◌∙◌, ap₂, arith, rules}
+use Rattle.std.proofs.Common.{◌≡◌, ◌+◌, ◌*◌, ◌%◌, ◌^◌, unwrap_or, ap, ◌∙◌, ap₂, arith, rules}
 use Rattle.book.proofs.MarginAnswers.{one_margin}
 use Rattle.speed.proofs.Sums.{more}
 use Rattle.speed.proofs.asked.minimums.Goals as goal

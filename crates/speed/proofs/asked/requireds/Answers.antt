@@ -1,4 +1,4 @@
-use Rattle.std.proofs.Common.{◌≡◌, ◌+◌, ◌*◌, ◌%◌, ◌^◌, sym, ap, ◌∙◌, arith, rules}
+use Rattle.std.proofs.Common.{◌≡◌, ◌*◌, ◌%◌, ◌^◌, ap, ◌∙◌, rules}
 use Rattle.kinds.specs.ListedOptions.{listed}
 use Rattle.book.specs.Tallies.{tally_of}
 use Rattle.speed.proofs.Sums.{more, replied}

@@ -1,4 +1,4 @@
-use Rattle.std.proofs.Common.{◌+◌, [], ◌∷◌, ◌++◌, nat_abs, vec_items, refl, ap, ◌∙◌, arith, w32}
+use Rattle.std.proofs.Common.{[], ◌∷◌, ◌++◌, nat_abs, vec_items, refl, ap, ◌∙◌, arith, w32}
 use Rattle.std.proofs.lemmas.List.{length_push}
 use Rattle.std.proofs.lemmas.Int.{to_z-of_z}
 use Rattle.book.specs.declared.position.Position.{Position}

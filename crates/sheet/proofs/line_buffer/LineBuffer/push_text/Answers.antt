@@ -1,4 +1,4 @@
-use Rattle.std.proofs.Common.{◌≡◌, ◌<◌, [], ◌∷◌, ◌++◌, length, get_or, take, sym, ap, ◌∙◌, append_assoc, arith, length-append, take_all}
+use Rattle.std.proofs.Common.{[], ◌∷◌, ◌++◌, length, get_or, take, sym, ap, ◌∙◌, append_assoc, arith, length-append, take_all}
 use Rattle.std.proofs.lemmas.List.{take_more, length-take}
 use Rattle.sheet.specs.LineTexts.{line_text}
 use Rattle.sheet.proofs.line_buffer.LineBuffer.push_text.Goals as goal

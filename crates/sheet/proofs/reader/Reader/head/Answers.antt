@@ -1,4 +1,4 @@
-use Rattle.std.proofs.Common.{◌≡◌, [], ◌∷◌, refl, subst}
+use Rattle.std.proofs.Common.{[], ◌∷◌, refl, subst}
 use Rattle.sheet.specs.declared.form.Form.TheVariants as form
 use Rattle.sheet.specs.ReadLines.{Passed}
 use Rattle.sheet.proofs.Rows.{told_at}
