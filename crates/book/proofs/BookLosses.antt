@@ -1,7 +1,7 @@
 -- The protected loss of a book whose contracts fit: straight except at the corners, and bounded by what is held sold.
 use Rattle.std.proofs.Common.{◌≡◌, ℕ, suc, ◌+◌, ◌-◌, ◌*◌, ◌≤◌, true, List, [], ◌∷◌, ◌++◌, ℤ, pos, negsuc, ◌*ℤ◌, neg_ℤ, ◌≤ℤ◌, sym, ap, ◌∙◌, add-mul, mul-le-mul_left, arith}
 use borrow.Author.Differences.{ints}
-use Rattle.std.specs.List.{AllByRecursion as All}
+use Rattle.std.specs.List.{AllByRecursion}
 use Rattle.book.specs.declared.position.Position.{Position}
 use Rattle.kinds.specs.Kinds.{Meaning, Lawful, Apart, StraightAt}
 use Rattle.book.specs.Prices.{Ahead, Worst}
@@ -10,11 +10,11 @@ use Rattle.book.proofs.Integers.{times_add, add_times, times_le}
 use Rattle.book.proofs.StraightLosses.{Straight, Bent}
 use Rattle.book.proofs.StraightLosses as straight
 
-pub all_left : {X : Type 0} (P : X → Type 0) (xs ys : List X) → All P (xs ++ ys) → All P xs
+pub all_left : {X : Type 0} (P : X → Type 0) (xs ys : List X) → AllByRecursion P (xs ++ ys) → AllByRecursion P xs
 all_left P [] ys h = tt
 all_left P (x ∷ xs) ys h = (h.0, all_left P xs ys h.1)
 
-pub all_right : {X : Type 0} (P : X → Type 0) (xs ys : List X) → All P (xs ++ ys) → All P ys
+pub all_right : {X : Type 0} (P : X → Type 0) (xs ys : List X) → AllByRecursion P (xs ++ ys) → AllByRecursion P ys
 all_right P [] ys h = h
 all_right P (x ∷ xs) ys h = all_right P xs ys h.1
 
@@ -66,7 +66,7 @@ module _ {C : Type 0} (K : Meaning C) (laws : Lawful K) (v u : ℕ) where
     }
 
     -- a price that stands ahead of price 0 and of the corners stands ahead of every whole price
-    pub worst : (p : ℕ) → All (Ahead (lost K v ps) p) (0 ∷ corners K v ps) → Worst (lost K v ps) p
+    pub worst : (p : ℕ) → AllByRecursion (Ahead (lost K v ps) p) (0 ∷ corners K v ps) → Worst (lost K v ps) p
     worst = straight.worst (lost K v ps) (corners K v ps) lost_bent
 
     module _ (scale : ℕ) where
@@ -81,8 +81,8 @@ module _ {C : Type 0} (K : Meaning C) (laws : Lawful K) (v u : ℕ) where
         bounded = loss_most;
       }
 
-      pub loss_everywhere : (M : ℤ) → All (λ c. loss K v scale ps c ≤ℤ M) (0 ∷ corners K v ps) → (x : ℕ) → loss K v scale ps x ≤ℤ M
+      pub loss_everywhere : (M : ℤ) → AllByRecursion (λ c. loss K v scale ps c ≤ℤ M) (0 ∷ corners K v ps) → (x : ℕ) → loss K v scale ps x ≤ℤ M
       loss_everywhere M h = straight.everywhere (loss K v scale ps) (corners K v ps) loss_bent M h.1 h.0
 
-      pub loss_worst : (p : ℕ) → All (Ahead (loss K v scale ps) p) (0 ∷ corners K v ps) → Worst (loss K v scale ps) p
+      pub loss_worst : (p : ℕ) → AllByRecursion (Ahead (loss K v scale ps) p) (0 ∷ corners K v ps) → Worst (loss K v scale ps) p
       loss_worst = straight.worst (loss K v scale ps) (corners K v ps) loss_bent

@@ -2,7 +2,7 @@
 use Rattle.std.proofs.Common.{◌≡◌, ℕ, zero, suc, ◌+◌, ◌*◌, ◌≤◌, min, true, ◌&&◌, leb, List, [], ◌∷◌, ◌++◌, map, length, take, drop, ℤ, pos, negsuc, ◌+ℤ◌, ◌*ℤ◌, neg_ℤ, ◌≤ℤ◌, Some, None, fold, Option, sym, refl, ap, ◌∙◌, subst, ⊎_elim, mul-add, arith}
 use borrow.Author.Differences.{ints}
 use Rattle.std.specs.Int.{int_min}
-use Rattle.std.specs.List.{AllByRecursion as All}
+use Rattle.std.specs.List.{AllByRecursion}
 use Rattle.std.proofs.ByRecursion.{All-map, all-has, All-weaker, folded_min_z_bounds, folded_min_z_reached}
 use Rattle.std.proofs.lemmas.Int.{clamps}
 use Rattle.std.proofs.lemmas.Bool.{and_parts, leb-true}
@@ -99,8 +99,8 @@ same_strikes v (p ∷ ps) = told_strikes v p.contract p.net (protected_portfolio
 -- minus the least of a and these is the least that is at least minus each of them
 record MinusLeast (a : ℤ) (xs : List ℤ) (r : ℤ) : Type 0 where
   pub start : neg_ℤ a ≤ℤ r
-  pub each : All (λ x. neg_ℤ x ≤ℤ r) xs
-  pub least : (m : ℤ) → neg_ℤ a ≤ℤ m → All (λ x. neg_ℤ x ≤ℤ m) xs → r ≤ℤ m
+  pub each : AllByRecursion (λ x. neg_ℤ x ≤ℤ r) xs
+  pub least : (m : ℤ) → neg_ℤ a ≤ℤ m → AllByRecursion (λ x. neg_ℤ x ≤ℤ m) xs → r ≤ℤ m
 
 minus_least : (a : ℤ) (xs : List ℤ) → MinusLeast a xs (neg_ℤ (fold int_min a xs))
 minus_least a xs =
@@ -152,11 +152,11 @@ module _ (laws : Lawful listed) (v u unit : ℕ) (ps : List (Position Listed)) (
 
   module _ (value_unit : ℕ) where
     -- what holds of minus the scenarios' values holds of their losses
-    valued : (P : ℤ → Type 0) (n : ℕ) (table : List ℕ) → All (λ x. P (neg_ℤ x)) (scenario_values value_unit ps n table) → All P (scenario_losses value_unit ps n table)
+    valued : (P : ℤ → Type 0) (n : ℕ) (table : List ℕ) → AllByRecursion (λ x. P (neg_ℤ x)) (scenario_values value_unit ps n table) → AllByRecursion P (scenario_losses value_unit ps n table)
     valued P zero table h = tt
     valued P (suc n) table h = (subst P (neg_times (row_value ps (take (length ps) table)) value_unit) h.0, valued P n (drop (length ps) table) h.1)
 
-    unvalued : (P : ℤ → Type 0) (n : ℕ) (table : List ℕ) → All P (scenario_losses value_unit ps n table) → All (λ x. P (neg_ℤ x)) (scenario_values value_unit ps n table)
+    unvalued : (P : ℤ → Type 0) (n : ℕ) (table : List ℕ) → AllByRecursion P (scenario_losses value_unit ps n table) → AllByRecursion (λ x. P (neg_ℤ x)) (scenario_values value_unit ps n table)
     unvalued P zero table h = tt
     unvalued P (suc n) table h = (subst P (sym (neg_times (row_value ps (take (length ps) table)) value_unit)) h.0, unvalued P n (drop (length ps) table) h.1)
 

@@ -2,7 +2,7 @@
 use Rattle.std.proofs.Common.{◌≡◌, ℕ, Bool, true, false, ◌&&◌, ◌||◌, eqb, leb, List, [], ◌∷◌, ℤ, pos, ◌≤ℤ◌, Some, None, Option, refl, subst, arith, MatchOption}
 use lib.Signed.{lt_z, le_z}
 use borrow.Author.Differences.{ints}
-use Rattle.std.specs.List.{AllByRecursion as All}
+use Rattle.std.specs.List.{AllByRecursion}
 use Rattle.std.proofs.ByRecursion.{All-weaker}
 use Rattle.std.proofs.lemmas.Bool.{and_parts, or_cases, leb-true, eqb-true}
 use Rattle.kinds.specs.Kinds.{Meaning, Lawful}
@@ -25,7 +25,7 @@ abbrev each : {X : Type 0} → (X → Bool) → List X → Bool
 each t [] = true
 each t (x ∷ xs) = t x && each t xs
 
-each_true : {X : Type 0} (t : X → Bool) (P : X → Type 0) → ((x : X) → t x ≡ true → P x) → (xs : List X) → each t xs ≡ true → All P xs
+each_true : {X : Type 0} (t : X → Bool) (P : X → Type 0) → ((x : X) → t x ≡ true → P x) → (xs : List X) → each t xs ≡ true → AllByRecursion P xs
 each_true t P h [] e = tt
 each_true t P h (x ∷ xs) e = let p = and_parts (t x) (each t xs) e in (h x p.0, each_true t P h xs p.1)
 

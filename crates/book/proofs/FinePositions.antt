@@ -1,6 +1,6 @@
 -- Positions that may stand one after another in a sheet, and that these are the positions of a book that keeps the rules.
 use Rattle.std.proofs.Common.{◌≡◌, ℕ, ◌+◌, ◌≤◌, true, false, not, ltb, leb, List, [], ◌∷◌, ◌++◌, nat_abs, Some, None, Option, sym, refl, ap, subst, ap₂, append_assoc, append-nil, arith}
-use Rattle.std.specs.List.{AllByRecursion as All}
+use Rattle.std.specs.List.{AllByRecursion}
 use Rattle.std.proofs.ByRecursion.{All-push}
 use Rattle.std.proofs.lemmas.Bool.{and_parts, and_from, or_parts, or_from, not-false, leb-true, le-leb, ltb-false, le-ltb}
 use Rattle.kinds.specs.Kinds.{Meaning}
@@ -88,7 +88,7 @@ module _ {C : Type 0} (K : Meaning C) (s : Storing C) (m : Market) where
   fine_distinct above (p ∷ ps) d f = subst (Distinct K) (append_assoc above (p ∷ []) ps) (fine_distinct (above ++ (p ∷ [])) ps (distinct_push above p d f.0.new) f.1)
 
   -- And back, from the rules that a book keeps.
-  all_there : (P : Position C → Type 0) (xs ys : List (Position C)) (y : Position C) → All P (xs ++ (y ∷ ys)) → P y
+  all_there : (P : Position C → Type 0) (xs ys : List (Position C)) (y : Position C) → AllByRecursion P (xs ++ (y ∷ ys)) → P y
   all_there P [] ys y h = h.0
   all_there P (x ∷ xs) ys y h = all_there P xs ys y h.1
 

@@ -1,7 +1,7 @@
 -- What trades and market changes keep.
 use Rattle.std.proofs.Common.{◌≡◌, ℕ, zero, suc, Bool, true, false, cond, List, [], ◌∷◌, ℤ, pos, negsuc, ◌+ℤ◌, Some, None, Option, sym, refl, ap, arith}
 use borrow.Author.Differences.{ints}
-use Rattle.std.specs.List.{AllByRecursion as All}
+use Rattle.std.specs.List.{AllByRecursion}
 use Rattle.std.specs.Option.{option_map}
 use Rattle.std.proofs.lemmas.Bool.{not-false}
 use Rattle.kinds.specs.Kinds.{Meaning, Lawful}
@@ -25,26 +25,26 @@ same_bool false false f g = refl
 
 module _ {C : Type 0} (K : Meaning C) where
   -- another position with the same contract is as far from p
-  put_apart : (p : C) (c : C) (z : ℤ) (ps : List (Position C)) → K.same p c ≡ false → All (λ r. K.same p r.contract ≡ false) ps → All (λ r. K.same p r.contract ≡ false) (put c z ps)
+  put_apart : (p : C) (c : C) (z : ℤ) (ps : List (Position C)) → K.same p c ≡ false → AllByRecursion (λ r. K.same p r.contract ≡ false) ps → AllByRecursion (λ r. K.same p r.contract ≡ false) (put c z ps)
   put_apart p c (pos zero) ps h a = a
   put_apart p c (pos (suc n)) ps h a = (h, a)
   put_apart p c (negsuc n) ps h a = (h, a)
 
-  traded_apart : (p c : C) (q : ℤ) (ps : List (Position C)) → K.same p c ≡ false → All (λ r. K.same p r.contract ≡ false) ps → All (λ r. K.same p r.contract ≡ false) (traded K c q ps)
+  traded_apart : (p c : C) (q : ℤ) (ps : List (Position C)) → K.same p c ≡ false → AllByRecursion (λ r. K.same p r.contract ≡ false) ps → AllByRecursion (λ r. K.same p r.contract ≡ false) (traded K c q ps)
   traded_apart p c q [] h a = put_apart p c q [] h tt
   traded_apart p c q (o ∷ ps) h a =
       let rest = traded_apart p c q ps h a.1 in
-      elim (K.same o.contract c) as (λ t. All (λ r. K.same p r.contract ≡ false) (cond t (put o.contract (o.net +ℤ q) ps) (o ∷ traded K c q ps))) [
+      elim (K.same o.contract c) as (λ t. AllByRecursion (λ r. K.same p r.contract ≡ false) (cond t (put o.contract (o.net +ℤ q) ps) (o ∷ traded K c q ps))) [
         | true ↦ put_apart p o.contract (o.net +ℤ q) ps a.0 a.1
         | false ↦ (a.0, rest)
       ]
 
-  put_distinct : (c : C) (z : ℤ) (ps : List (Position C)) → All (λ r. K.same c r.contract ≡ false) ps → Distinct K ps → Distinct K (put c z ps)
+  put_distinct : (c : C) (z : ℤ) (ps : List (Position C)) → AllByRecursion (λ r. K.same c r.contract ≡ false) ps → Distinct K ps → Distinct K (put c z ps)
   put_distinct c (pos zero) ps a d = d
   put_distinct c (pos (suc n)) ps a d = (a, d)
   put_distinct c (negsuc n) ps a d = (a, d)
 
-  at_head : (c : C) (q : ℤ) (p : Position C) (ps : List (Position C)) (t : Bool) → K.same p.contract c ≡ t → All (λ r. K.same p.contract r.contract ≡ false) ps → Distinct K ps → Distinct K (traded K c q ps) → Distinct K (cond t (put p.contract (p.net +ℤ q) ps) (p ∷ traded K c q ps))
+  at_head : (c : C) (q : ℤ) (p : Position C) (ps : List (Position C)) (t : Bool) → K.same p.contract c ≡ t → AllByRecursion (λ r. K.same p.contract r.contract ≡ false) ps → Distinct K ps → Distinct K (traded K c q ps) → Distinct K (cond t (put p.contract (p.net +ℤ q) ps) (p ∷ traded K c q ps))
   at_head c q p ps true e a d rest = put_distinct p.contract (p.net +ℤ q) ps a d
   at_head c q p ps false e a d rest = (traded_apart p.contract c q ps e a, rest)
 

@@ -1,7 +1,7 @@
 -- A line as its fields: fields of the right forms with a space between them are cut into these fields again, and a well-formed line is put together from its fields.
 use Rattle.std.proofs.Common.{◌≡◌, ℕ, zero, suc, ◌^◌, ◌<◌, ◌≤◌, Bool, true, false, cond, not, ◌&&◌, eqb, List, [], ◌∷◌, ◌++◌, length, get_or, ℤ, pos, negsuc, nat_abs, is_some, Some, None, decimal, Option, sym, refl, ap, ◌∙◌, subst, ap₂, ⊎_elim, append_assoc, append-nil, arith}
 use Rattle.std.specs.Fmt.{signed_decimal}
-use Rattle.std.specs.List.{AllByRecursion as All}
+use Rattle.std.specs.List.{AllByRecursion}
 use Rattle.std.specs.Str.{bytes_eq, all_ascii_digits}
 use Rattle.std.proofs.lemmas.Fmt.{digits_decimal}
 use Rattle.std.proofs.lemmas.Slice.Eq.{bytes_eq-Decides}
@@ -27,7 +27,7 @@ spaced (f ∷ g ∷ fs) = f ++ (32 ∷ spaced (g ∷ fs))
 
 -- Neither a space nor a line feed.
 abbrev pub Plain : List ℕ → Type 0
-Plain bs = All (λ b. (eqb b 32 ≡ false) × (eqb b 10 ≡ false)) bs
+Plain bs = AllByRecursion (λ b. (eqb b 32 ≡ false) × (eqb b 10 ≡ false)) bs
 
 fields_plain : (f : List ℕ) → Plain f → fields f ≡ f ∷ []
 fields_plain [] h = refl
@@ -37,7 +37,7 @@ fields_more : (f rest : List ℕ) → Plain f → fields (f ++ (32 ∷ rest)) �
 fields_more [] rest h = refl
 fields_more (b ∷ f) rest h = ap (λ t. cond t ([] ∷ fields (f ++ (32 ∷ rest))) (in_front b (fields (f ++ (32 ∷ rest))))) h.0.0 ∙ ap (in_front b) (fields_more f rest h.1)
 
-fields_spaced : (f : List ℕ) (fs : List (List ℕ)) → All Plain (f ∷ fs) → fields (spaced (f ∷ fs)) ≡ f ∷ fs
+fields_spaced : (f : List ℕ) (fs : List (List ℕ)) → AllByRecursion Plain (f ∷ fs) → fields (spaced (f ∷ fs)) ≡ f ∷ fs
 fields_spaced f [] h = fields_plain f h.0
 fields_spaced f (g ∷ fs) h = fields_more f (spaced (g ∷ fs)) h.0 ∙ ap (λ gs. f ∷ gs) (fields_spaced g fs h.1)
 
@@ -50,14 +50,14 @@ after_run : (f rest : List ℕ) → Plain f → after 10 (f ++ rest) ≡ after 1
 after_run [] rest h = refl
 after_run (b ∷ f) rest h = ap (λ t. cond t (Some (f ++ rest)) (after 10 (f ++ rest))) h.0.1 ∙ after_run f rest h.1
 
-before_line : (f : List ℕ) (fs : List (List ℕ)) (rest : List ℕ) → All Plain (f ∷ fs) → before 10 (spaced (f ∷ fs) ++ (10 ∷ rest)) ≡ spaced (f ∷ fs)
+before_line : (f : List ℕ) (fs : List (List ℕ)) (rest : List ℕ) → AllByRecursion Plain (f ∷ fs) → before 10 (spaced (f ∷ fs) ++ (10 ∷ rest)) ≡ spaced (f ∷ fs)
 before_line f [] rest h = before_run f (10 ∷ rest) h.0 ∙ append-nil f
 before_line f (g ∷ fs) rest h =
     ap (before 10) (append_assoc f (32 ∷ spaced (g ∷ fs)) (10 ∷ rest))
     ∙ before_run f (32 ∷ (spaced (g ∷ fs) ++ (10 ∷ rest))) h.0
     ∙ ap (λ bs. f ++ (32 ∷ bs)) (before_line g fs rest h.1)
 
-after_line : (f : List ℕ) (fs : List (List ℕ)) (rest : List ℕ) → All Plain (f ∷ fs) → after 10 (spaced (f ∷ fs) ++ (10 ∷ rest)) ≡ Some rest
+after_line : (f : List ℕ) (fs : List (List ℕ)) (rest : List ℕ) → AllByRecursion Plain (f ∷ fs) → after 10 (spaced (f ∷ fs) ++ (10 ∷ rest)) ≡ Some rest
 after_line f [] rest h = after_run f (10 ∷ rest) h.0
 after_line f (g ∷ fs) rest h =
     ap (after 10) (append_assoc f (32 ∷ spaced (g ∷ fs)) (10 ∷ rest))
@@ -122,7 +122,7 @@ form_plain Quantity f h = quantity_plain f h
 form_plain Letter f h = ⊎_elim (same_plain (67 ∷ []) f refl) (same_plain (80 ∷ []) f refl) (or_cases (bytes_eq f (67 ∷ [])) (bytes_eq f (80 ∷ [])) h)
 form_plain Limiter f h = ⊎_elim (same_plain (45 ∷ []) f refl) (number_plain f) (or_cases (bytes_eq f (45 ∷ [])) (is_some (number_of 8 f)) h)
 
-forms_plain : (ps : List Form) (fs : List (List ℕ)) → of_forms ps fs ≡ true → All Plain fs
+forms_plain : (ps : List Form) (fs : List (List ℕ)) → of_forms ps fs ≡ true → AllByRecursion Plain fs
 forms_plain [] [] h = tt
 forms_plain [] (f ∷ fs) h = absurd (let z : ◌≡◌ {A = ℕ} 0 1 = cc in omega arith)
 forms_plain (p ∷ ps) [] h = absurd (let z : ◌≡◌ {A = ℕ} 0 1 = cc in omega arith)

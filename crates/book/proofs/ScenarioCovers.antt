@@ -1,7 +1,7 @@
 -- Numbers of centavos that cover the losses of scenarios.
 use Rattle.std.proofs.Common.{◌≡◌, ℕ, zero, suc, ◌*◌, ◌≤◌, max, Bool, true, false, cond, ltb, List, [], ◌∷◌, get_or, ℤ, pos, ◌≤ℤ◌, Some, None, Option, refl, arith}
 use borrow.Author.Differences.{ints}
-use Rattle.std.specs.List.{AllByRecursion as All}
+use Rattle.std.specs.List.{AllByRecursion}
 use Rattle.std.specs.Option.{option_map}
 use Rattle.std.proofs.lemmas.Bool.{ltb-false}
 use Rattle.book.specs.Prices.{centavos, Covers, CoversBoth, Least}
@@ -10,7 +10,7 @@ use Rattle.book.proofs.Rounding.{centavos_cover, centavos_least}
 
 pub record Holds (m : ℕ) (zs : List ℤ) (n : ℕ) : Type 0 where
   pub start : m ≤ n
-  pub each : All (λ z. z ≤ℤ pos (n * 1000000)) zs
+  pub each : AllByRecursion (λ z. z ≤ℤ pos (n * 1000000)) zs
 
 pub greatest_holds : (m : ℕ) (zs : List ℤ) → Holds m zs (greatest m zs)
 greatest_holds m [] = record { start = omega arith; each = tt }
@@ -20,13 +20,13 @@ greatest_holds m (z ∷ zs) =
     let c = centavos_cover z in
     record { start = omega arith; each = (omega (arith, ints), rest.each) }
 
-pub greatest_least : (m : ℕ) (zs : List ℤ) (n : ℕ) → m ≤ n → All (λ z. z ≤ℤ pos (n * 1000000)) zs → greatest m zs ≤ n
+pub greatest_least : (m : ℕ) (zs : List ℤ) (n : ℕ) → m ≤ n → AllByRecursion (λ z. z ≤ℤ pos (n * 1000000)) zs → greatest m zs ≤ n
 greatest_least m [] n h a = h
 greatest_least m (z ∷ zs) n h a =
     let c = centavos_least z n a.0 in
     greatest_least (max m (centavos z)) zs n (omega arith) a.1
 
-weaker : (m n : ℕ) (zs : List ℤ) → m ≤ n → All (λ z. z ≤ℤ pos (m * 1000000)) zs → All (λ z. z ≤ℤ pos (n * 1000000)) zs
+weaker : (m n : ℕ) (zs : List ℤ) → m ≤ n → AllByRecursion (λ z. z ≤ℤ pos (m * 1000000)) zs → AllByRecursion (λ z. z ≤ℤ pos (n * 1000000)) zs
 weaker m n [] l h = tt
 weaker m n (z ∷ zs) l h = let k = h.0 in (omega (arith, ints), weaker m n zs l h.1)
 

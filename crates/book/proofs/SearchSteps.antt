@@ -1,7 +1,7 @@
 -- A search that keeps the best price so far.
 use Rattle.std.proofs.Common.{◌≡◌, ℕ, ◌+◌, ◌<◌, ◌≤◌, true, List, [], ◌∷◌, ◌++◌, length, get_or, take, ℤ, pos, negsuc, ◌*ℤ◌, ◌≤ℤ◌, ◌<ℤ◌, sym, refl, ap, ◌∙◌, subst, ⊎_elim, arith}
 use borrow.Author.Differences.{ints}
-use Rattle.std.specs.List.{AllByRecursion as All}
+use Rattle.std.specs.List.{AllByRecursion}
 use Rattle.std.proofs.ByRecursion.{All-weaker, All-append}
 use Rattle.std.proofs.lemmas.List.{take_more, append-nil, append_assoc}
 use Rattle.book.specs.declared.position.Position.{Position}
@@ -31,7 +31,7 @@ module _ (f : ℕ → ℤ) where
   ahead_lower p q e l = record { no_less = omega (arith, ints); first = λ k. absurd (omega arith) }
 
   -- all that p stood ahead of
-  pub all_ahead : (p q : ℕ) (xs : List ℕ) → Ahead f q p → All (Ahead f p) xs → All (Ahead f q) xs
+  pub all_ahead : (p q : ℕ) (xs : List ℕ) → Ahead f q p → AllByRecursion (Ahead f p) xs → AllByRecursion (Ahead f q) xs
   all_ahead p q xs a = All-weaker (Ahead f p) (Ahead f q) (λ x b. ahead_chain p q x a b) xs
 
 -- the scale of the loss does not matter
@@ -50,7 +50,7 @@ module _ {C : Type 0} (K : Meaning C) (v : ℕ) where
   told_bought c (pos n) h = refl
   told_bought c (negsuc n) h = absurd (omega (arith, ints))
 
-  pub told_low : Lawful K → (u : ℕ) (c : C) (z : ℤ) → K.fits c v u ≡ true → All (λ x. x ≤ u) (told K v c z)
+  pub told_low : Lawful K → (u : ℕ) (c : C) (z : ℤ) → K.fits c v u ≡ true → AllByRecursion (λ x. x ≤ u) (told K v c z)
   told_low laws u c (pos n) f = (laws.few_corners c v u f).0.low
   told_low laws u c (negsuc n) f = (laws.few_corners c v u f).1.low
 

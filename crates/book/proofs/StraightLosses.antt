@@ -1,7 +1,7 @@
 -- A function of the whole prices that is bounded above and straight except at some corners: where it is greatest.
 use Rattle.std.proofs.Common.{◌≡◌, ℕ, zero, suc, ◌+◌, ◌<◌, ◌≢◌, List, ◌∷◌, ℤ, pos, ◌+ℤ◌, ◌≤ℤ◌, ◌<ℤ◌, ap, arith}
 use borrow.Author.Differences.{ints, down}
-use Rattle.std.specs.List.{AllByRecursion as All}
+use Rattle.std.specs.List.{AllByRecursion}
 use Rattle.std.proofs.ByRecursion.{All-weaker}
 use Rattle.std.proofs.lemmas.Int.{by_lt_z}
 use Rattle.kinds.specs.Kinds.{Apart}
@@ -16,7 +16,7 @@ pub record Bent (f : ℕ → ℤ) (bs : List ℕ) : Type 0 where
   pub bound : ℕ
   pub bounded : (x : ℕ) → f x ≤ℤ pos bound
 
-module _ (f : ℕ → ℤ) (bs : List ℕ) (b : Bent f bs) (M : ℤ) (lows : All (λ c. f c ≤ℤ M) bs) where
+module _ (f : ℕ → ℤ) (bs : List ℕ) (b : Bent f bs) (M : ℤ) (lows : AllByRecursion (λ c. f c ≤ℤ M) bs) where
   -- a price with a loss above M is no corner
   above_apart : (x : ℕ) → M <ℤ f x → Apart x bs
   above_apart x h = All-weaker (λ c. f c ≤ℤ M) (λ c. c ≢ x) (λ c k e. let q = ap f e in omega (arith, ints)) bs lows
@@ -54,7 +54,7 @@ module _ (f : ℕ → ℤ) (bs : List ℕ) (b : Bent f bs) (M : ℤ) (lows : All
       let e = b.straight x (above_apart (suc x) (omega (arith, ints))) in
       (omega (arith, ints), omega (arith, ints))
 
-module _ (f : ℕ → ℤ) (bs : List ℕ) (b : Bent f bs) (p : ℕ) (ahead : All (Ahead f p) (0 ∷ bs)) where
+module _ (f : ℕ → ℤ) (bs : List ℕ) (b : Bent f bs) (p : ℕ) (ahead : AllByRecursion (Ahead f p) (0 ∷ bs)) where
   at_most : (x : ℕ) → f x ≤ℤ f p
   at_most = everywhere f bs b (f p) (All-weaker (Ahead f p) (λ c. f c ≤ℤ f p) (λ c a. a.no_less) bs ahead.1) ahead.0.no_less
 

@@ -1,6 +1,6 @@
 -- The list of positions after a trade: where the contract is held, and where it is not.
 use Rattle.std.proofs.Common.{◌≡◌, ℕ, zero, suc, ◌+◌, ◌<◌, ◌≤◌, true, false, cond, leb, List, [], ◌∷◌, ◌++◌, length, get_or, take, drop, set, ℤ, pos, negsuc, ◌+ℤ◌, nat_abs, sym, refl, ap, ◌∙◌, arith}
-use Rattle.std.specs.List.{remove, AllByRecursion as All}
+use Rattle.std.specs.List.{remove, AllByRecursion}
 use Rattle.std.proofs.lemmas.List.{set_split, length-append, length-take, length-drop}
 use Rattle.std.proofs.lemmas.Bool.{and_parts, and_from, le-leb}
 use Rattle.kinds.specs.Kinds.{Meaning}
@@ -9,12 +9,12 @@ use Rattle.book.specs.Losses.{gross, all_held}
 use Rattle.book.specs.Trades.{put, traded, traded_at}
 
 module _ {C : Type 0} (K : Meaning C) (c : C) (q : ℤ) where
-  pub traded_new : (ps : List (Position C)) → All (λ p. K.same p.contract c ≡ false) ps → traded K c q ps ≡ ps ++ put c q []
+  pub traded_new : (ps : List (Position C)) → AllByRecursion (λ p. K.same p.contract c ≡ false) ps → traded K c q ps ≡ ps ++ put c q []
   traded_new [] h = refl
   traded_new (p ∷ ps) h =
       ap (λ t. cond t (put p.contract (p.net +ℤ q) ps) (p ∷ traded K c q ps)) h.0 ∙ ap (λ qs. p ∷ qs) (traded_new ps h.1)
 
-  pub traded_held : (ps : List (Position C)) (i : ℕ) (p : Position C) → i < length ps → p ≡ get_or ps i p → All (λ o. K.same o.contract c ≡ false) (take i ps) → K.same p.contract c ≡ true → traded K c q ps ≡ traded_at ps i p q
+  pub traded_held : (ps : List (Position C)) (i : ℕ) (p : Position C) → i < length ps → p ≡ get_or ps i p → AllByRecursion (λ o. K.same o.contract c ≡ false) (take i ps) → K.same p.contract c ≡ true → traded K c q ps ≡ traded_at ps i p q
   traded_held [] i p l e h s = absurd (omega arith)
   traded_held (o ∷ ps) zero p l e h s =
       ap (λ (x : Position C). cond (K.same x.contract c) (put x.contract (x.net +ℤ q) ps) (x ∷ traded K c q ps)) (sym e)

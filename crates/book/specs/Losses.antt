@@ -1,6 +1,6 @@
 -- What a list of positions is worth and what it loses at a price, and where its corners lie. K is the meaning of its kind.
 use Rattle.std.specs.Prelude.{◌≡◌, ℕ, suc, ◌+◌, ◌≤◌, Bool, true, ◌&&◌, List, [], ◌∷◌, ◌++◌, ℤ, pos, negsuc, ◌+ℤ◌, ◌*ℤ◌, neg_ℤ, nat_le, unsigned_abs}
-use Rattle.std.specs.List.{AllByRecursion as All}
+use Rattle.std.specs.List.{AllByRecursion}
 use Rattle.book.specs.declared.position.Position.{Position}
 use Rattle.book.specs.declared.found.Found.{Found}
 use Rattle.kinds.specs.Kinds.{Meaning}
@@ -37,7 +37,7 @@ corners K v (p ∷ ps) = told K v p.contract p.net ++ corners K v ps
 
 -- Every position's contract fits the variation v and the ceiling u.
 abbrev pub Fitting : {C : Type 0} → Meaning C → ℕ → ℕ → List (Position C) → Type 0
-Fitting K v u ps = All (λ p. K.fits p.contract v u ≡ true) ps
+Fitting K v u ps = AllByRecursion (λ p. K.fits p.contract v u ≡ true) ps
 
 -- How many single contracts are held sold.
 abbrev pub short : ℤ → ℕ

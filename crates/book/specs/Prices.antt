@@ -1,7 +1,7 @@
 -- A loss at each whole price: where it is greatest, and which whole numbers of centavos cover it.
 -- A loss is an integer of exact units, a millionth of a centavo; below zero it is a gain.
 use Rattle.std.specs.Prelude.{ℕ, ◌+◌, ◌*◌, ◌/◌, ◌<◌, ◌≤◌, List, ℤ, pos, negsuc, ◌≤ℤ◌, ◌<ℤ◌, Option, MatchOption}
-use Rattle.std.specs.List.{AllByRecursion as All}
+use Rattle.std.specs.List.{AllByRecursion}
 
 -- The price p stands ahead of the price x: the loss at x is no greater, and less if x is the lower price.
 pub record Ahead (loss : ℕ → ℤ) (p x : ℕ) : Type 0 where
@@ -10,11 +10,11 @@ pub record Ahead (loss : ℕ → ℤ) (p x : ℕ) : Type 0 where
 
 -- p stands ahead of each of these prices.
 pub record Leads (loss : ℕ → ℤ) (p : ℕ) (xs : List ℕ) : Type 0 where
-  pub each : All (Ahead loss p) xs
+  pub each : AllByRecursion (Ahead loss p) xs
 
 -- none of these prices lies above u
 pub record Under (u : ℕ) (xs : List ℕ) : Type 0 where
-  pub each : All (λ x. x ≤ u) xs
+  pub each : AllByRecursion (λ x. x ≤ u) xs
 
 -- p is the lowest of all whole prices at which the loss is greatest.
 pub record Worst (loss : ℕ → ℤ) (p : ℕ) : Type 0 where
@@ -43,11 +43,11 @@ pub record Margin (loss : ℕ → ℤ) (n : ℕ) (at : Option ℕ) : Type 0 wher
 
 -- n centavos also cover every loss of this list.
 abbrev pub CoversBoth : (ℕ → ℤ) → List ℤ → ℕ → Type 0
-CoversBoth loss losses n = Covers loss n × All (λ z. z ≤ℤ pos (n * 1000000)) losses
+CoversBoth loss losses n = Covers loss n × AllByRecursion (λ z. z ≤ℤ pos (n * 1000000)) losses
 
 -- z is the least amount of exact units, not below zero, that covers the loss at every whole price and every loss of this list.
 pub record Exact (loss : ℕ → ℤ) (losses : List ℤ) (z : ℤ) : Type 0 where
   pub not_below : pos 0 ≤ℤ z
   pub everywhere : (x : ℕ) → loss x ≤ℤ z
-  pub each : All (λ y. y ≤ℤ z) losses
-  pub least : (m : ℤ) → pos 0 ≤ℤ m → ((x : ℕ) → loss x ≤ℤ m) → All (λ y. y ≤ℤ m) losses → z ≤ℤ m
+  pub each : AllByRecursion (λ y. y ≤ℤ z) losses
+  pub least : (m : ℤ) → pos 0 ≤ℤ m → ((x : ℕ) → loss x ≤ℤ m) → AllByRecursion (λ y. y ≤ℤ m) losses → z ≤ℤ m

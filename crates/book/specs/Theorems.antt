@@ -3,7 +3,7 @@
 -- and ps the positions of a book.
 use Rattle.std.specs.Prelude.{◌≡◌, ℕ, ◌*◌, ◌≤◌, cond, List, [], ◌∷◌, map, ℤ, pos, ◌+ℤ◌, ◌*ℤ◌, neg_ℤ, ◌≤ℤ◌, None, fold, Option}
 use Rattle.std.specs.Int.{int_max}
-use Rattle.std.specs.List.{AllByRecursion as All}
+use Rattle.std.specs.List.{AllByRecursion}
 use Rattle.book.specs.declared.position.Position.{Position}
 use Rattle.kinds.specs.Kinds.{Meaning}
 use Rattle.kinds.specs.declared.listed.Listed.{Listed}
@@ -25,13 +25,13 @@ use Rattle.book.specs.declared.market.Market.{Market}
 abbrev pub CornersBound : {C : Type 0} → Meaning C → Type 0
 CornersBound {C} K =
     (v u scale : ℕ) (ps : List (Position C)) → Fitting K v u ps →
-    (most : ℤ) → All (λ c. loss K v scale ps c ≤ℤ most) (0 ∷ corners K v ps) → (x : ℕ) → loss K v scale ps x ≤ℤ most
+    (most : ℤ) → AllByRecursion (λ c. loss K v scale ps c ≤ℤ most) (0 ∷ corners K v ps) → (x : ℕ) → loss K v scale ps x ≤ℤ most
 
 -- A price that stands ahead of price 0 and of the corners is the lowest of all whole prices at which the loss is greatest.
 abbrev pub CornersSuffice : {C : Type 0} → Meaning C → Type 0
 CornersSuffice {C} K =
     (v u scale : ℕ) (ps : List (Position C)) → Fitting K v u ps →
-    (p : ℕ) → All (Ahead (loss K v scale ps) p) (0 ∷ corners K v ps) → Worst (loss K v scale ps) p
+    (p : ℕ) → AllByRecursion (Ahead (loss K v scale ps) p) (0 ∷ corners K v ps) → Worst (loss K v scale ps) p
 
 -- There is one answer to the margin question.
 abbrev pub OneMargin : Type 0
@@ -77,7 +77,7 @@ TradesAddUp {C} K = (ps : List (Position C)) (c d : C) (q : ℤ) → net_in K d 
 abbrev pub ZeroNeverRaises : {C : Type 0} → Meaning C → Type 0
 ZeroNeverRaises {C} K =
     (v u scale : ℕ) (ps : List (Position C)) → Fitting K v u ps →
-    (most : ℤ) → pos 0 ≤ℤ most → All (λ c. loss K v scale ps c ≤ℤ most) (corners K v ps) → loss K v scale ps 0 ≤ℤ most
+    (most : ℤ) → pos 0 ≤ℤ most → AllByRecursion (λ c. loss K v scale ps c ≤ℤ most) (corners K v ps) → loss K v scale ps 0 ≤ℤ most
 
 -- The circular's minimum margin is, in exact units and rounded up to a centavo, the least that covers the protected loss at
 -- every whole price.

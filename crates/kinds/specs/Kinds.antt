@@ -1,6 +1,6 @@
 -- A kind of contract as a book sees it, and the six rules that every kind keeps.
 use Rattle.std.specs.Prelude.{◌≡◌, ℕ, ◌+◌, ◌-◌, ◌*◌, ◌≤◌, min, Bool, true, ◌≢◌, List, length}
-use Rattle.std.specs.List.{AllByRecursion as All}
+use Rattle.std.specs.List.{AllByRecursion}
 
 -- What a kind replies, over all whole prices from zero up. C is the type of its contracts.
 pub record Meaning (C : Type 0) : Type 0 where
@@ -19,7 +19,7 @@ pub record Meaning (C : Type 0) : Type 0 where
 
 -- The price x is none of these.
 abbrev pub Apart : ℕ → List ℕ → Type 0
-Apart x prices = All (λ p. p ≢ x) prices
+Apart x prices = AllByRecursion (λ p. p ≢ x) prices
 
 -- Twice the payment at x is the payment one below plus the payment one above.
 abbrev pub StraightAt : (ℕ → ℕ) → ℕ → Type 0
@@ -32,7 +32,7 @@ StraightOff prices payment = (x : ℕ) → 1 ≤ x → Apart x prices → Straig
 -- At most two prices, none above the ceiling.
 pub record Few (ceiling : ℕ) (prices : List ℕ) : Type 0 where
   pub two : length prices ≤ 2
-  pub low : All (λ p. p ≤ ceiling) prices
+  pub low : AllByRecursion (λ p. p ≤ ceiling) prices
 
 -- The contracts c and d may stand for one another.
 pub record Agree {C : Type 0} (m : Meaning C) (c d : C) : Type 0 where

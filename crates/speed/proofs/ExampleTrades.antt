@@ -1,6 +1,6 @@
 -- The book that is measured, trade by trade: each contract is a new one.
 use Rattle.std.proofs.Common.{◌≡◌, ℕ, zero, suc, ◌+◌, ◌-◌, ◌*◌, ◌%◌, ◌<◌, ◌≤◌, Bool, true, false, cond, eqb, ltb, [], ◌∷◌, ◌++◌, pos, negsuc, refl, ap, ◌∙◌, arith}
-use Rattle.std.specs.List.{AllByRecursion as All}
+use Rattle.std.specs.List.{AllByRecursion}
 use Rattle.std.proofs.ByRecursion.{All-push}
 use Rattle.std.proofs.lemmas.Bool.{ne_eqb}
 use Rattle.kinds.specs.declared.listed.Listed.{Listed}
@@ -18,7 +18,7 @@ apart false true i j l h = refl
 apart false false i j l h = ne_eqb (250000 - 1900 * j) (250000 - 1900 * i) (λ e. omega arith)
 
 -- the option of the position i is none of the first n
-unheld : (i n : ℕ) → n ≤ i → i < 128 → All (λ p. listed.same p.contract (option_at i) ≡ false) (example n)
+unheld : (i n : ℕ) → n ≤ i → i < 128 → AllByRecursion (λ p. listed.same p.contract (option_at i) ≡ false) (example n)
 unheld i zero l h = tt
 unheld i (suc n) l h =
     All-push (λ p. listed.same p.contract (option_at i) ≡ false) (example n) _ (unheld i n (omega arith) h) (apart (eqb (n % 2) 0) (eqb (i % 2) 0) i n (omega arith) h)

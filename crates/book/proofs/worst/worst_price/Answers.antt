@@ -1,7 +1,7 @@
 use Rattle.std.proofs.Common.{◌≡◌, ◌≤◌, ◌∷◌, take, sym, ◌∙◌, subst, arith, take_all, w64}
 use borrow.Author.Differences.{ints}
 use Rattle.std.proofs.lemmas.Int.{to_z-of_z}
-use Rattle.std.specs.List.{AllByRecursion as All}
+use Rattle.std.specs.List.{AllByRecursion}
 use Rattle.book.specs.Losses.{lost, corners}
 use Rattle.book.specs.Prices.{Leads, Under}
 use Rattle.book.proofs.BookLosses.{worst}
@@ -29,7 +29,7 @@ loop-position-preserved g c =
           let f = item_fits K v u ps i p c.loop-position-test.true c.position-item.is s.fitting in
           let t = c.corners_of.ensures u f s.low in
           let old = c.loop-position.invariant.1 u s in
-          let low : Under u _ = record { each = subst (All (λ x. x ≤ u)) (sym t) (told_low K v g.met.K.Kind.lawful u p.contract p.net f) } in
+          let low : Under u _ = record { each = subst (AllByRecursion (λ x. x ≤ u)) (sym t) (told_low K v g.met.K.Kind.lawful u p.contract p.net f) } in
           let new = c.worst_corner-found.ensures u s old.0 low in
           (new.0, search_more K v ps i p c.corners_of.result c.loop-position.found.price c.worst_corner-found.result.price c.loop-position-test.true c.position-item.is t old.1 new.1),
     )

@@ -1,6 +1,6 @@
 use Rattle.std.proofs.Common.{◌≡◌, ℕ, zero, suc, ◌<◌, ◌≤◌, true, false, ltb, List, [], ◌∷◌, ◌++◌, length, get_or, take, ℤ, pos, negsuc, nat_abs, vec_items, sym, refl, ap, ◌∙◌, subst, arith, w32, of_z}
 use Rattle.kinds.specs.Kinds.{Meaning}
-use Rattle.std.specs.List.{AllByRecursion as All}
+use Rattle.std.specs.List.{AllByRecursion}
 use Rattle.std.proofs.lemmas.List.{get_or_default}
 use Rattle.std.proofs.lemmas.Int.{to_z-of_z}
 use Rattle.std.proofs.lemmas.Bool.{or_from, le-ltb}
@@ -22,7 +22,7 @@ not_zero (negsuc n) h = omega arith
 
 -- What the search for the contract found.
 abbrev Found : {C : Type 0} → Meaning C → C → ℕ → List (Position C) → Type 0
-Found {C} K c i ps = (i < length ps) × All (λ p. K.same p.contract c ≡ false) (take i ps) × ((d : Position C) → K.same (get_or ps i d).contract c ≡ true)
+Found {C} K c i ps = (i < length ps) × AllByRecursion (λ p. K.same p.contract c ≡ false) (take i ps) × ((d : Position C) → K.same (get_or ps i d).contract c ≡ true)
 
 pub returns-in-Some : goal.returns-in-Some
 returns-in-Some g c =
@@ -48,7 +48,7 @@ returns-in-None g c =
     let old = c.args.self.now in
     let ps = vec_items old.positions in
     let q = to_z-of_z w32 c.args.quantity c.ranges.quantity in
-    let f = subst (All (λ p. K.same p.contract c.args.contract ≡ false)) c.as_slice.ensures.value c.in-None.ensures in
+    let f = subst (AllByRecursion (λ p. K.same p.contract c.args.contract ≡ false)) c.as_slice.ensures.value c.in-None.ensures in
     let size = c.unsigned_abs.ensures.value ∙ ap nat_abs q in
     let some = not_zero c.args.quantity c.if-quantity-eq0.false in
     let fits = ap (λ v. K.fits c.args.contract v old.market.ceiling) (sym c.variation.ensures) ∙ sym c.if-not-fits.ensures.told in
