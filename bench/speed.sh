@@ -5,12 +5,12 @@
 set -eu
 turns=${1:-5}
 cd "$(dirname "$0")/.."
-rt check speed > /dev/null
+(cd crates/speed && rt run -- 1 1 0 0 > /dev/null 2>&1)
 
 # nanoseconds of one run: POSITIONS MINIMUMS REQUIREDS
 run() {
     began=$(date +%s%N)
-    target/bin/speed "$1" 405 "$2" "$3" > /dev/null
+    crates/speed/out/speed "$1" 405 "$2" "$3" > /dev/null
     ended=$(date +%s%N)
     echo $((ended - began))
 }
