@@ -5,7 +5,7 @@
 set -eu
 turns=${1:-5}
 cd "$(dirname "$0")/.."
-(cd crates/speed && rt run -- 1 1 0 0 > /dev/null 2>&1)
+(cd crates/speed && rt run -- 1 1 0 0 > /dev/null)
 
 # nanoseconds of one run: POSITIONS MINIMUMS REQUIREDS
 run() {

@@ -1,4 +1,4 @@
-// Theorems: each function's contract says what is proved, and its reply K.means nothing.
+// Theorems: each function's contract says what is proved, and its reply means nothing.
 ghost use Rattle.book.specs.Theorems.{CornersBound, CornersSuffice, CornerFormula, OneMargin, SalesRaise, PurchasesLower, SoldBounds, TradesKeep, ChangesKeep, TradesAddUp, ZeroNeverRaises, CircularMinimum, CircularRequired, CircularReplies, LimiterLosses};
 ghost use Rattle.book.specs.RunLaws.{RunsRight, NetsAddUp};
 ghost use Rattle.kinds.specs.ListedOptions.{listed};

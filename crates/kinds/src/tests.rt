@@ -178,13 +178,13 @@ fn sameness(rt: HostRuntime) {
         !CALL.same(&Listed {
             side: Side::Put,
             strike: 380_000,
-        },)
+        })
     );
     assert!(rt;
         !LIMITED_PUT.same(&Flexible {
             side: Side::Put,
             strike: 200_000,
             limiter: None,
-        },)
+        })
     );
 }

@@ -10,7 +10,7 @@ pub record Fails (forms : List Form) (fs : List (List ℕ)) : Type 0 where
   pub not_formed : of_forms forms fs ≡ false
   pub none_good : good_fields forms fs ≡ 0
 
-pub record Goes_on (forms more : List Form) (fs rest : List (List ℕ)) : Type 0 where
+pub record GoesOn (forms more : List Form) (fs rest : List (List ℕ)) : Type 0 where
   pub formed : of_forms forms fs ≡ of_forms more rest
   pub one_more : good_fields forms fs ≡ suc (good_fields more rest)
 
@@ -24,7 +24,7 @@ module _ (ps : List Form) (i : ℕ) (d : Form) (l : i < length ps) where
     none_good = at_drop_more (λ qs. good_fields qs (f ∷ fs)) ps i d l ∙ ap (λ t. cond t (suc (good_fields (drop (i + 1) ps) fs)) 0) h;
   }
 
-  pub right : (f : List ℕ) (fs : List (List ℕ)) → is_form (get_or ps i d) f ≡ true → Goes_on (drop i ps) (drop (i + 1) ps) (f ∷ fs) fs
+  pub right : (f : List ℕ) (fs : List (List ℕ)) → is_form (get_or ps i d) f ≡ true → GoesOn (drop i ps) (drop (i + 1) ps) (f ∷ fs) fs
   right f fs h = record {
     formed = at_drop_more (λ qs. of_forms qs (f ∷ fs)) ps i d l ∙ ap (λ t. t && of_forms (drop (i + 1) ps) fs) h;
     one_more = at_drop_more (λ qs. good_fields qs (f ∷ fs)) ps i d l ∙ ap (λ t. cond t (suc (good_fields (drop (i + 1) ps) fs)) 0) h;
