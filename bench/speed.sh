@@ -5,7 +5,10 @@
 set -eu
 turns=${1:-5}
 cd "$(dirname "$0")/.."
-(cd crates/speed && rt run -- 1 1 0 0 > /dev/null)
+if ! said=$(cd crates/speed && rt run -- 1 1 0 0 2>&1); then
+    echo "$said" >&2
+    exit 1
+fi
 
 # nanoseconds of one run: POSITIONS MINIMUMS REQUIREDS
 run() {
