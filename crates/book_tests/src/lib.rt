@@ -2,4 +2,14 @@
 #![tactic(auto)]
 
 #[cfg(test)]
-mod tests;
+mod calls;
+#[cfg(test)]
+mod examples;
+#[cfg(test)]
+mod runs;
+#[cfg(test)]
+mod setting;
+#[cfg(test)]
+mod sheet_faults;
+#[cfg(test)]
+mod sheets;

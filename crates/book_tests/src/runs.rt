@@ -1,0 +1,61 @@
+// A run of calls from a start, and starts that are turned away.
+use crate::setting::{MARKET, call, market};
+use book::{Book, Call, Places, Refusal, Reply, Start};
+use kinds::Listed;
+use std::test::Fail;
+
+// The replies of a run, as a number each: 0 for done, the cause of a refusal, or the centavos.
+fn told(reply: Reply) -> u64 {
+    match reply {
+        Reply::Done => 0,
+        Reply::Refused(refusal) => u64::from(refusal.number()),
+        Reply::Minimum(centavos, _) => centavos,
+        Reply::Required(centavos) => centavos,
+    }
+}
+
+#[test]
+fn runs(rt: HostRuntime) -> Result<(), Fail> {
+    let table = [172_754u32];
+    let calls = [
+        Call::Minimum,
+        Call::Trade(call(380_000), -30),
+        Call::Trade(call(992_308), 1),
+        Call::Minimum,
+        Call::Required(1, &table),
+        Call::Required(2, &table),
+        Call::Change(market((0, 1, 0, 1, 1))),
+        Call::Change(market((1_000_000, 256_450, 0, 50, 10_000))),
+        Call::Minimum,
+    ];
+    let expected: [u64; 9] = [0, 0, 7, 11_539_500, 11_539_500, 12, 1, 0, 0];
+    let mut replies = [Reply::Required(5); 10];
+    let places: Places<Listed> = Places::reserve(rt.alloc(), 2)?;
+    match Book::start(places, Start::Fresh(MARKET), &calls, &mut replies) {
+        Ok(book) => assert_eq!(rt; book.len(), 1usize),
+        Err((refusal, _)) => return Err(Fail::new(refusal.number())),
+    }
+    for i in 0..9usize {
+        assert_eq!(rt; told(replies[i]), expected[i]);
+    }
+    assert_eq!(rt; told(replies[9]), 5u64);
+    // a sheet that is refused, and too few places for replies
+    let again: Places<Listed> = Places::reserve(rt.alloc(), 2)?;
+    match Book::start(
+        again,
+        Start::Sheet("market 5\n0\n".as_bytes()),
+        &calls,
+        &mut replies,
+    ) {
+        Ok(_) => return Err(Fail::new("taken")),
+        Err((refusal, places)) => {
+            assert_eq!(rt; refusal.number(), 1u32);
+            match Book::start(places, Start::Fresh(MARKET), &calls, &mut replies[0..8]) {
+                Ok(_) => return Err(Fail::new("taken")),
+                Err((refusal, _)) => assert_eq!(rt; refusal, Refusal::Buffer(9)),
+            }
+        }
+    }
+    assert_eq!(rt; told(replies[3]), 11_539_500u64);
+    Ok(())
+}
