@@ -11,10 +11,10 @@ use Rattle.sheet.specs.declared.fault.BookCause.TheVariants as book_cause
 use Rattle.sheet.specs.StoredKinds.{Storing, Storable}
 use Rattle.book.specs.declared.market.Market.{Market}
 use Rattle.book.specs.declared.position.Position.{Position}
-use Rattle.book.specs.Losses.{gross, all_held, Fitting}
+use Rattle.book.specs.Losses.{gross, all_held, Fitting, Distinct}
 use Rattle.book.specs.Markets.{outside, variation_of}
-use Rattle.book.specs.Tallies.{Distinct}
 use Rattle.book.specs.SheetReading.{or_fault, when, named_in, contract_fault, own_fault, above_fault, position_fault}
+use Rattle.book.specs.Tallies.{Kept}
 use Rattle.book.proofs.SheetFaults.{or_both, when_not, not_when, inside}
 use Rattle.book.proofs.TradedLists.{gross_append}
 
@@ -86,6 +86,12 @@ module _ {C : Type 0} (K : Meaning C) (s : Storing C) (m : Market) where
   pub fine_distinct : (above ps : List (Position C)) → Distinct K above → AllFine above ps → Distinct K (above ++ ps)
   fine_distinct above [] d f = subst (Distinct K) (sym (append-nil above)) d
   fine_distinct above (p ∷ ps) d f = subst (Distinct K) (append_assoc above (p ∷ []) ps) (fine_distinct (above ++ (p ∷ [])) ps (distinct_push above p d f.0.new) f.1)
+
+  -- A position without a fault may stand after those above it.
+  pub fine_push : (line places : ℕ) (above : List (Position C)) (p : Position C) → own_fault K s m line p ≡ None → above_fault K line above p ≡ None → Kept K (record { places = places; market = m; positions = above }) → Kept K (record { places = places; market = m; positions = above ++ (p ∷ []) })
+  fine_push line places above p own over k =
+      let f = fine_from line above p (ap₂ or_fault own over) in
+      record { fitting = All-push _ above p k.fitting f.fits; distinct = distinct_push above p k.distinct f.new }
 
   -- And back, from the rules that a book keeps.
   all_there : (P : Position C → Type 0) (xs ys : List (Position C)) (y : Position C) → AllByRecursion P (xs ++ (y ∷ ys)) → P y

@@ -7,9 +7,9 @@ use Rattle.std.proofs.lemmas.Bool.{not-false}
 use Rattle.kinds.specs.Kinds.{Meaning, Lawful}
 use Rattle.book.specs.declared.position.Position.{Position}
 use Rattle.book.specs.declared.refusal.Refusal.{Refusal}
-use Rattle.book.specs.Losses.{Fitting}
+use Rattle.book.specs.Losses.{Fitting, Distinct}
 use Rattle.book.specs.Markets.{market_refusal, variation_of}
-use Rattle.book.specs.Tallies.{Distinct, or_else, first_unfit}
+use Rattle.book.specs.Tallies.{Tally, Kept, or_else, holding, first_unfit}
 use Rattle.book.specs.Theorems.{TradesKeep, ChangesKeep, TradesAddUp}
 use Rattle.book.specs.Trades.{put, traded, net_in}
 use Rattle.book.proofs.TradeEffects.{traded_fitting}
@@ -52,12 +52,16 @@ module _ {C : Type 0} (K : Meaning C) where
   traded_distinct c q [] d = put_distinct c q [] tt tt
   traded_distinct c q (p ∷ ps) d = at_head c q p ps (K.same p.contract c) refl d.0 d.1 (traded_distinct c q ps d.1)
 
+  -- a trade in a contract that fits keeps the tally
+  pub traded_kept : (t : Tally C) (c : C) (q : ℤ) → Kept K t → K.fits c (variation_of t.market) t.market.ceiling ≡ true → Kept K (holding t (traded K c q t.positions))
+  traded_kept t c q k fits =
+      record { fitting = traded_fitting K (variation_of t.market) t.market.ceiling c q t.positions fits k.fitting; distinct = traded_distinct c q t.positions k.distinct }
+
   pub trades_keep : TradesKeep K
   trades_keep t c q k h =
       let a = past _ _ _ h in
       let b = past _ _ _ a.1 in
-      let fits = not-false (K.fits c (variation_of t.market) t.market.ceiling) b.0 in
-      record { fitting = traded_fitting K (variation_of t.market) t.market.ceiling c q t.positions fits k.fitting; distinct = traded_distinct c q t.positions k.distinct }
+      traded_kept t c q k (not-false (K.fits c (variation_of t.market) t.market.ceiling) b.0)
 
   none_mapped : {X Y : Type 0} (f : X → Y) (o : Option X) → option_map f o ≡ None → o ≡ None
   none_mapped f None h = refl
@@ -67,7 +71,7 @@ module _ {C : Type 0} (K : Meaning C) where
   fits_past true o h = (refl, none_mapped suc o h)
   fits_past false o h = absurd (let z : ◌≡◌ {A = ℕ} 0 1 = cc in omega arith)
 
-  all_fit : (v u : ℕ) (ps : List (Position C)) → first_unfit K v u ps ≡ None → Fitting K v u ps
+  pub all_fit : (v u : ℕ) (ps : List (Position C)) → first_unfit K v u ps ≡ None → Fitting K v u ps
   all_fit v u [] h = tt
   all_fit v u (p ∷ ps) h = let b = fits_past (K.fits p.contract v u) (first_unfit K v u ps) h in (b.0, all_fit v u ps b.1)
 

@@ -1,6 +1,6 @@
 -- Every run of a kept book keeps every promise.
-use Rattle.std.proofs.Common.{◌≡◌, ◌≤◌, true, cond, List, length, Some, None, Option, ap, arith}
-use Rattle.std.proofs.lemmas.Bool.{le-ltb}
+use Rattle.std.proofs.Common.{◌≡◌, ◌<◌, ◌≤◌, ◌∙◌, true, cond, List, length, Some, None, Option, ap, arith}
+use Rattle.std.proofs.lemmas.Bool.{le-ltb, lt-ltb}
 use Rattle.kinds.specs.declared.kind.Kind.{Ghosts}
 use Rattle.kinds.specs.Kinds.{Meaning, Lawful}
 use Rattle.book.specs.declared.book.Book.{Book}
@@ -13,8 +13,12 @@ use Rattle.book.specs.Markets.{IsMarket}
 use Rattle.book.specs.RunLaws.{LawfulRun}
 use Rattle.book.specs.Runs.{Run}
 use Rattle.book.specs.Starts.{replies_refusal}
-use Rattle.book.specs.Tallies.{Tally, tally_of, Kept, Valid, or_else}
+use Rattle.book.specs.Tallies.{Tally, Kept, Valid, tally_of, or_else}
 use Rattle.book.proofs.RightRuns.{runs_right, nets_add_up, kept_end}
+
+-- A book's type says that its contracts fit its market and that none is held twice.
+pub kept : {C : Type 0} {g : Ghosts C} (b : Book C g) → Kept g.means (tally_of b)
+kept b = record { fitting = b.fitting; distinct = b.distinct }
 
 -- What every book keeps, whatever its kind.
 pub record Rules {C : Type 0} (t : Tally C) : Type 0 where
@@ -37,6 +41,12 @@ module _ {C : Type 0} (K : Meaning C) where
       let steps = runs_right K laws t u cs rs k run in
       record { steps = steps; nets = nets_add_up K laws t u cs rs run; valid = valid u r (kept_end K laws t u cs rs steps) }
 
--- With places enough for the replies, the start's own cause decides.
-pub enough : {C : Type 0} (calls : List (Call C)) (replies : List Reply) (why : Option Refusal) → length calls ≤ length replies → or_else (replies_refusal calls replies) why ≡ why
-enough calls replies why h = ap (λ b. or_else (cond b (Some (Buffer (length calls))) None) why) (le-ltb (length replies) (length calls) h)
+-- Where the start has no cause of its own, the places for the replies decide.
+pub enough : {C : Type 0} (calls : List (Call C)) (replies : List Reply) (why : Option Refusal) → why ≡ None → length calls ≤ length replies → or_else why (replies_refusal calls replies) ≡ None
+enough calls replies why e h = ap (λ o. or_else o (replies_refusal calls replies)) e ∙ ap (λ b. cond b (Some (Buffer (length calls))) None) (le-ltb (length replies) (length calls) h)
+
+pub too_few : {C : Type 0} (calls : List (Call C)) (replies : List Reply) (why : Option Refusal) → why ≡ None → length replies < length calls → or_else why (replies_refusal calls replies) ≡ Some (Buffer (length calls))
+too_few calls replies why e h = ap (λ o. or_else o (replies_refusal calls replies)) e ∙ ap (λ b. cond b (Some (Buffer (length calls))) None) (lt-ltb (length replies) (length calls) h)
+
+pub own_cause : (a b : Option Refusal) (e : Refusal) → a ≡ Some e → or_else a b ≡ Some e
+own_cause a b e h = ap (λ o. or_else o b) h

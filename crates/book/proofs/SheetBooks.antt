@@ -10,7 +10,7 @@ use Rattle.book.specs.declared.refusal.Refusal.TheVariants.{Sheet}
 use Rattle.book.specs.SheetLaws.{Readable, Accepted}
 use Rattle.book.specs.SheetReading.{SheetRead}
 use Rattle.book.specs.SheetTexts.{sheet_of}
-use Rattle.book.specs.Tallies.{Tally, tally_of, Kept, Valid}
+use Rattle.book.specs.Tallies.{Tally, Kept, Valid, tally_of}
 use Rattle.book.proofs.LawfulRuns.{rules, valid}
 use Rattle.book.proofs.SheetRoundTrips.{reads_back, written_back, accepted_valid, accepts_exactly}
 

@@ -1,6 +1,8 @@
 -- What a list of positions is worth and what it loses at a price, and where its corners lie. K is the meaning of its kind.
-use Rattle.std.specs.Prelude.{◌≡◌, ℕ, suc, ◌+◌, ◌≤◌, Bool, true, ◌&&◌, List, [], ◌∷◌, ◌++◌, ℤ, pos, negsuc, ◌+ℤ◌, ◌*ℤ◌, neg_ℤ, nat_le, unsigned_abs}
-use Rattle.std.specs.List.{AllByRecursion}
+use Rattle.std.specs.Prelude.{◌≡◌, ℕ, suc, ◌+◌, ◌≤◌, Bool, true, false, ◌&&◌, List, [], ◌∷◌, ◌++◌, ℤ, pos, negsuc, ◌+ℤ◌, ◌*ℤ◌, neg_ℤ, nat_le, unsigned_abs}
+use mathlib.Core.Bool.{Bool-set}
+use Rattle.std.specs.Coded.{Unit-prop, ×_prop}
+use Rattle.std.specs.List.{AllByRecursion, AllByRecursion-prop}
 use Rattle.book.specs.declared.position.Position.{Position}
 use Rattle.book.specs.declared.found.Found.{Found}
 use Rattle.kinds.specs.Kinds.{Meaning}
@@ -38,6 +40,19 @@ corners K v (p ∷ ps) = told K v p.contract p.net ++ corners K v ps
 -- Every position's contract fits the variation v and the ceiling u.
 abbrev pub Fitting : {C : Type 0} → Meaning C → ℕ → ℕ → List (Position C) → Type 0
 Fitting K v u ps = AllByRecursion (λ p. K.fits p.contract v u ≡ true) ps
+
+-- No contract is held twice.
+abbrev pub Distinct : {C : Type 0} → Meaning C → List (Position C) → Type 0
+Distinct K [] = Unit {0}
+Distinct K (p ∷ ps) = AllByRecursion (λ q. K.same p.contract q.contract ≡ false) ps × Distinct K ps
+
+-- A book keeps these two facts in its type, which asks that each has one proof at most.
+pub Fitting-prop : {C : Type 0} (K : Meaning C) (v u : ℕ) (ps : List (Position C)) → IsProp (Fitting K v u ps)
+Fitting-prop K v u ps = AllByRecursion-prop _ (λ p. Bool-set _ _) ps
+
+pub Distinct-prop : {C : Type 0} (K : Meaning C) (ps : List (Position C)) → IsProp (Distinct K ps)
+Distinct-prop K [] = Unit-prop
+Distinct-prop K (p ∷ ps) = ×_prop (AllByRecursion-prop _ (λ q. Bool-set _ _) ps) (Distinct-prop K ps)
 
 -- How many single contracts are held sold.
 abbrev pub short : ℤ → ℕ

@@ -11,8 +11,8 @@ use Rattle.book.specs.Markets.{unit_margin, value_unit}
 use Rattle.book.specs.Prices.{Margin, Least, Covers, CoversBoth, centavos}
 use Rattle.book.specs.Runs.{loss_of, Step, Run}
 use Rattle.book.specs.Scenarios.{scenario_losses}
-use Rattle.book.specs.Tallies.{Tally, Kept, Valid}
 use Rattle.book.specs.Trades.{net_in}
+use Rattle.book.specs.Tallies.{Tally, Kept, Valid}
 
 -- The margins of a tally t: the minimum margin is the least number of centavos that covers the protected loss at every whole price, and never passes the
 -- unit minimum margins of all single contracts held sold, summed and rounded up; the required margin covers every scenario too.
@@ -71,7 +71,7 @@ pub record LawfulRun {C : Type 0} (K : Meaning C) (t : Tally C) (calls : List (C
   pub nets : (d : C) → net_in K d u.positions ≡ net_in K d t.positions +ℤ all_added K d calls replies
   pub valid : Valid K u
 
--- A run whose replies stand at the front of a list of places keeps every promise where the tally was kept.
+-- A run whose replies stand at the front of a list of places keeps every promise.
 abbrev pub RanLawfully : {C : Type 0} → Meaning C → Tally C → List (Call C) → List Reply → Tally C → Result (Unit {0}) Refusal → Type 0
-RanLawfully K t calls new u (Ok x) = Kept K t → LawfulRun K t calls (take (length calls) new) u
+RanLawfully K t calls new u (Ok x) = LawfulRun K t calls (take (length calls) new) u
 RanLawfully K t calls new u (Err e) = Unit {0}

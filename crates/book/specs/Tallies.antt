@@ -1,7 +1,6 @@
 -- The tally: a plain list of positions with places and a market, and what each call does to it.
 use Rattle.std.specs.Prelude.{◌≡◌, ℕ, suc, ◌<◌, ◌≤◌, true, false, cond, not, List, [], ◌∷◌, length, ℤ, Some, None, Ok, Err, vec_items, Option, Result, nat_lt, slice_index_or, unsigned_abs}
 use Rattle.std.specs.Option.{option_map}
-use Rattle.std.specs.List.{AllByRecursion}
 use Rattle.kinds.specs.declared.kind.Kind.{Ghosts}
 use Rattle.kinds.specs.Kinds.{Meaning}
 use Rattle.book.specs.declared.book.Book.{Book}
@@ -9,7 +8,7 @@ use Rattle.book.specs.declared.market.Market.{Market}
 use Rattle.book.specs.declared.position.Position.{Position}
 use Rattle.book.specs.declared.refusal.Refusal.{Refusal}
 use Rattle.book.specs.declared.refusal.Refusal.TheVariants.{Places, Quantity, DoesNotFit, Contracts, AllPlacesTaken, HeldDoesNotFit, NoPosition, AboveCeiling}
-use Rattle.book.specs.Losses.{value, gross, all_held, Fitting}
+use Rattle.book.specs.Losses.{value, gross, all_held, Fitting, Distinct}
 use Rattle.book.specs.Markets.{outside, market_refusal, IsMarket, variation_of}
 use Rattle.book.specs.Trades.{traded}
 
@@ -20,11 +19,6 @@ pub record Tally (C : Type 0) : Type 0 where
 
 abbrev pub tally_of : {C : Type 0} {g : Ghosts C} → Book C g → Tally C
 tally_of b = record { places = b.places; market = b.market; positions = vec_items b.positions }
-
--- No contract is held twice.
-abbrev pub Distinct : {C : Type 0} → Meaning C → List (Position C) → Type 0
-Distinct K [] = Unit {0}
-Distinct K (p ∷ ps) = AllByRecursion (λ q. K.same p.contract q.contract ≡ false) ps × Distinct K ps
 
 -- What a tally keeps of its kind: every held contract fits the market, and none is held twice.
 pub record Kept {C : Type 0} (K : Meaning C) (t : Tally C) : Type 0 where

@@ -4,7 +4,7 @@ ghost use Rattle.book.specs.Losses.{loss};
 ghost use Rattle.book.specs.Markets.{variation_of, price_unit};
 ghost use Rattle.book.specs.Prices.{Margin};
 ghost use Rattle.book.specs.Scenarios.{RequiredTold};
-ghost use Rattle.book.specs.Tallies.{tally_of, Kept, PositionTold, ValueTold};
+ghost use Rattle.book.specs.Tallies.{Kept, tally_of, PositionTold, ValueTold};
 
 use crate::book::Book;
 use crate::margin::minimum_margin;
@@ -47,7 +47,8 @@ impl<K: Kind> Book<K> {
 
     // The protected value at a price, in hundredths of a point × contracts.
     pub fn value(&self, price: u32) -> Result<i64, Refusal>
-        ensures { ValueTold K.means (tally_of self.now) price result }
+        ensures told { ValueTold K.means (tally_of self.now) price result }
+        ensures kept { Kept K.means (tally_of self.now) }
     {
         if price > self.market.ceiling {
             return Err(Refusal::AboveCeiling);
@@ -57,14 +58,15 @@ impl<K: Kind> Book<K> {
 
     // The minimum margin in centavos, and the lowest price at which the loss is greatest, if some loss is above zero.
     pub fn minimum(&self) -> (u64, Option<u32>)
-        ensures { Kept K.means (tally_of self.now) → Margin (loss K.means (variation_of self.now.market) (price_unit self.now.market) (tally_of self.now).positions) result.0 result.1 }
+        ensures { Margin (loss K.means (variation_of self.now.market) (price_unit self.now.market) (tally_of self.now).positions) result.0 result.1 }
     {
         minimum_margin(self.positions.as_slice(), &self.market)
     }
 
     // The required margin in centavos: it also covers the book's loss in every scenario of the table.
     pub fn required(&self, scenarios: usize, table: &[u32]) -> Result<u64, Refusal>
-        ensures { RequiredTold K.means (tally_of self.now) scenarios table.now result }
+        ensures told { RequiredTold K.means (tally_of self.now) scenarios table.now result }
+        ensures kept { Kept K.means (tally_of self.now) }
     {
         if scenarios < 1 || scenarios > 405 {
             return Err(Refusal::Scenarios);

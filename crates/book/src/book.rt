@@ -1,7 +1,7 @@
-// A book: places, a market and the positions held. What no kind is needed for is in its invariant.
+// A book: places, a market and the positions held, and in its invariant all that they keep.
 ghost use Rattle.std.specs.Prelude.{◌≡◌, ◌≤◌, true, vec_len, vec_capacity};
-ghost use Rattle.book.specs.Losses.{gross, all_held};
-ghost use Rattle.book.specs.Markets.{IsMarket};
+ghost use Rattle.book.specs.Losses.{gross, all_held, Fitting, Fitting-prop, Distinct, Distinct-prop};
+ghost use Rattle.book.specs.Markets.{IsMarket, variation_of};
 
 use crate::market::Market;
 use crate::position::Position;
@@ -22,4 +22,6 @@ pub struct Book<K: Kind> {
     ghost few: { gross positions.items ≤ 10000 },
     ghost held: { all_held positions.items ≡ true },
     ghost spare: { places ≤ vec_capacity seen },
+    ghost fitting: { Fitting K.means (variation_of market) market.ceiling positions.items } by { Fitting-prop K.means (variation_of market) market.ceiling positions.items },
+    ghost distinct: { Distinct K.means positions.items } by { Distinct-prop K.means positions.items },
 }

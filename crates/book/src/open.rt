@@ -1,6 +1,6 @@
 // Reserving room and opening a book.
 ghost use Rattle.std.specs.Prelude.{◌≡◌, [], IfOk, Some, None, MatchResult};
-ghost use Rattle.book.specs.Tallies.{tally_of, Kept, open_refusal};
+ghost use Rattle.book.specs.Tallies.{Kept, tally_of, open_refusal};
 
 use crate::book::Book;
 use crate::market::Market;

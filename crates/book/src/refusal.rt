@@ -1,5 +1,5 @@
 // Why a call is turned away.
-ghost use Rattle.std.specs.Prelude.{◌≡◌, ◌∷◌, ◌++◌};
+ghost use Rattle.std.specs.Prelude.{◌≡◌, ◌∷◌, ◌++◌, None};
 ghost use Rattle.std.specs.Option.{option_to_list};
 ghost use Rattle.sheet.specs.Faults.{fault_line, fault_values};
 ghost use Rattle.book.specs.Refusals.{refusal_number, refusal_values};
@@ -68,7 +68,8 @@ impl Refusal {
 
     // What is returned beside the number: none, one or two values.
     pub fn values(self) -> (Option<usize>, Option<usize>)
-        ensures { option_to_list result.0 ++ option_to_list result.1 ≡ refusal_values self }
+        ensures told { option_to_list result.0 ++ option_to_list result.1 ≡ refusal_values self }
+        ensures first { result.0 ≡ None → result.1 ≡ None }
     {
         match self {
             Refusal::MarketNumber(which) => (Some(usize::from(which)), None),

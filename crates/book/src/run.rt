@@ -2,7 +2,7 @@
 ghost use Rattle.std.specs.Prelude.{◌≡◌, ◌≤◌, length, take, drop};
 ghost use Rattle.book.specs.RunLaws.{LawfulRun, RanLawfully};
 ghost use Rattle.book.specs.Runs.{Run, Step, settled, Ran};
-ghost use Rattle.book.specs.Tallies.{tally_of, Kept};
+ghost use Rattle.book.specs.Tallies.{tally_of};
 
 use crate::book::Book;
 use crate::call::{Call, Reply};
@@ -41,7 +41,7 @@ impl<K: Kind> Book<K> {
     pub(crate) fn run_all(&mut self, calls: &[Call<K>], replies: &mut [Reply])
         requires { length calls.now ≤ length replies.old }
         ensures run { Run K.means (tally_of self.old) calls.now (take (length calls.now) replies.new) (tally_of self.new) }
-        ensures law { Kept K.means (tally_of self.old) → LawfulRun K.means (tally_of self.old) calls.now (take (length calls.now) replies.new) (tally_of self.new) }
+        ensures law { LawfulRun K.means (tally_of self.old) calls.now (take (length calls.now) replies.new) (tally_of self.new) }
         ensures rest { drop (length calls.now) replies.new ≡ drop (length calls.now) replies.old }
     {
         for (i, call) in calls.iter().enumerate() {

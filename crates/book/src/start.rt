@@ -2,7 +2,7 @@
 ghost use Rattle.std.specs.Prelude.{◌≡◌, Some, None, vec_len, MatchResult};
 ghost use Rattle.book.specs.SheetReading.{tally_told};
 ghost use Rattle.book.specs.Starts.{fresh, sheet_refusal, start_refusal, started, Started};
-ghost use Rattle.book.specs.Tallies.{tally_of, Valid, open_refusal};
+ghost use Rattle.book.specs.Tallies.{Valid, tally_of, open_refusal};
 
 use crate::book::Book;
 use crate::call::{Call, Reply};
@@ -10,7 +10,7 @@ use crate::market::Market;
 use crate::places::Places;
 use crate::refusal::Refusal;
 use kinds::Kind;
-use sheet::Stored;
+use sheet::{BookCause, Fault, Stored};
 
 #[derive(Clone, Copy)]
 pub enum Start<'a> {
@@ -20,17 +20,17 @@ pub enum Start<'a> {
 }
 
 impl<K: Kind> Book<K> {
-    // The places of a book without positions.
+    // The places of a book, emptied.
     fn into_places(self) -> Places<K>
-        requires { vec_len self.positions ≡ 0 }
         ensures { result.count ≡ self.places }
     {
         let Book {
             places,
             market: _,
-            positions,
+            mut positions,
             seen,
         } = self;
+        positions.clear();
         Places {
             count: places,
             positions,
@@ -47,10 +47,10 @@ impl<K: Kind> Book<K> {
     ) -> Result<Book<K>, (Refusal, Places<K>)>
         ensures { Started K.means places.count (open_refusal places.count market) (fresh places.count market) calls.now replies.old replies.new result }
     {
-        if replies.len() < calls.len() {
-            return Err((Refusal::Buffer(calls.len()), places));
-        }
         let mut book = Book::open(places, market)?;
+        if replies.len() < calls.len() {
+            return Err((Refusal::Buffer(calls.len()), book.into_places()));
+        }
         book.run_all(calls, replies);
         Ok(book)
     }
@@ -61,6 +61,9 @@ impl<K: Stored> Book<K> {
     pub fn from_sheet(places: Places<K>, sheet: &[u8]) -> Result<Book<K>, (Refusal, Places<K>)>
         ensures { MatchResult result (λ b. (sheet_refusal K.Kind.means K.Stored.stored places.count sheet.now ≡ None) × (tally_of b ≡ tally_told K.Stored.stored places.count sheet.now) × Valid K.Kind.means (tally_of b)) (λ e. (sheet_refusal K.Kind.means K.Stored.stored places.count sheet.now ≡ Some e.0) × (e.1.count ≡ places.count)) }
     {
+        if sheet.len() > 65_536 {
+            return Err((Refusal::Sheet(Fault::Book(0, BookCause::TooLong)), places));
+        }
         let market = Market {
             ceiling: 1,
             reference: 1,
@@ -87,10 +90,10 @@ impl<K: Stored> Book<K> {
         match start {
             Start::Fresh(market) => Book::open_and_run(places, market, calls, replies),
             Start::Sheet(sheet) => {
-                if replies.len() < calls.len() {
-                    return Err((Refusal::Buffer(calls.len()), places));
-                }
                 let mut book = Book::from_sheet(places, sheet)?;
+                if replies.len() < calls.len() {
+                    return Err((Refusal::Buffer(calls.len()), book.into_places()));
+                }
                 book.run_all(calls, replies);
                 Ok(book)
             }

@@ -1,7 +1,7 @@
 // A trade: it adds to the position held in its contract, or becomes a new one after the last.
 ghost use Rattle.std.specs.Prelude.{◌≡◌, ◌+◌, ◌<◌, ◌≤◌, [], ◌∷◌, ◌++◌, length, vec_len, slice_index_or, unsigned_abs};
 ghost use Rattle.book.specs.Losses.{gross};
-ghost use Rattle.book.specs.Tallies.{tally_of, holding, ends_refusal, trade_refusal, Told};
+ghost use Rattle.book.specs.Tallies.{Kept, tally_of, holding, ends_refusal, trade_refusal, Told};
 ghost use Rattle.book.specs.Trades.{traded, traded_at};
 
 use crate::book::Book;
@@ -32,6 +32,7 @@ impl<K: Kind> Book<K> {
         requires within { index < length self.old.positions.items }
         requires small { unsigned_abs quantity ≤ 10000 }
         requires few { (d : Position K) → gross (traded_at self.old.positions.items index (slice_index_or self.old.positions.items index d) quantity) ≤ 10000 }
+        requires kept { (d : Position K) → Kept K.means (holding (tally_of self.old) (traded_at self.old.positions.items index (slice_index_or self.old.positions.items index d) quantity)) }
         ensures { (d : Position K) → tally_of self.new ≡ record { places = self.old.places; market = self.old.market; positions = traded_at self.old.positions.items index (slice_index_or self.old.positions.items index d) quantity } }
     {
         let net = self.positions[index].net + quantity;
@@ -47,6 +48,7 @@ impl<K: Kind> Book<K> {
         requires room { vec_len self.old.positions < self.old.places }
         requires some { 1 ≤ unsigned_abs quantity }
         requires few { gross self.old.positions.items + unsigned_abs quantity ≤ 10000 }
+        requires kept { Kept K.means (holding (tally_of self.old) (self.old.positions.items ++ record { contract = contract; net = quantity } ∷ [])) }
         ensures { tally_of self.new ≡ holding (tally_of self.old) (self.old.positions.items ++ record { contract = contract; net = quantity } ∷ []) }
     {
         self.positions.push_reserved(Position {
@@ -59,6 +61,7 @@ impl<K: Kind> Book<K> {
     fn trade_held(&mut self, index: usize, quantity: i32) -> Result<(), Refusal>
         requires within { index < length self.old.positions.items }
         requires small { unsigned_abs quantity ≤ 10000 }
+        requires kept { (d : Position K) → Kept K.means (holding (tally_of self.old) (traded_at self.old.positions.items index (slice_index_or self.old.positions.items index d) quantity)) }
         ensures { (d : Position K) → Told (ends_refusal (tally_of self.old) (traded_at self.old.positions.items index (slice_index_or self.old.positions.items index d) quantity)) (tally_of self.old) (holding (tally_of self.old) (traded_at self.old.positions.items index (slice_index_or self.old.positions.items index d) quantity)) (tally_of self.new) result }
     {
         if contracts_after(self.positions.as_slice(), index, quantity) > 10_000 {
@@ -72,6 +75,7 @@ impl<K: Kind> Book<K> {
     fn trade_new(&mut self, contract: K, quantity: i32) -> Result<(), Refusal>
         requires some { 1 ≤ unsigned_abs quantity }
         requires small { unsigned_abs quantity ≤ 10000 }
+        requires kept { Kept K.means (holding (tally_of self.old) (self.old.positions.items ++ record { contract = contract; net = quantity } ∷ [])) }
         ensures { Told (ends_refusal (tally_of self.old) (self.old.positions.items ++ record { contract = contract; net = quantity } ∷ [])) (tally_of self.old) (holding (tally_of self.old) (self.old.positions.items ++ record { contract = contract; net = quantity } ∷ [])) (tally_of self.new) result }
     {
         if contracts(self.positions.as_slice()) + quantity.unsigned_abs() > 10_000 {

@@ -3,7 +3,7 @@ ghost use Rattle.std.specs.Prelude.{◌≡◌, ◌+◌, ◌<◌, ◌≤◌, [], 
 ghost use Rattle.sheet.specs.LineTexts.{line_text};
 ghost use Rattle.book.specs.SheetLaws.{Readable};
 ghost use Rattle.book.specs.SheetTexts.{sheet_lines, sheet_of, SheetWritten};
-ghost use Rattle.book.specs.Tallies.{tally_of, Kept};
+ghost use Rattle.book.specs.Tallies.{tally_of};
 
 use crate::book::Book;
 use crate::refusal::Refusal;
@@ -56,7 +56,7 @@ impl<K: Stored> Book<K> {
     // Writes the book as a sheet to the front of a buffer and replies its length.
     pub fn write(&self, out: &mut [u8]) -> Result<usize, Refusal>
         ensures told { SheetWritten (sheet_of K.Stored.stored (tally_of self.now)) out.old out.new result }
-        ensures readable { Kept K.Kind.means (tally_of self.now) → Readable K.Kind.means K.Stored.stored (tally_of self.now) }
+        ensures readable { Readable K.Kind.means K.Stored.stored (tally_of self.now) }
     {
         let needed = self.sheet_len();
         if out.len() < needed {

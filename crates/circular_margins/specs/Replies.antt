@@ -8,8 +8,8 @@ use Rattle.book.specs.Markets.{value_unit}
 use Rattle.book.specs.Prices.{Margin, Least, CoversBoth}
 use Rattle.book.specs.Runs.{loss_of}
 use Rattle.book.specs.Scenarios.{scenario_losses}
-use Rattle.book.specs.Tallies.{Tally}
 use Rattle.book.specs.Trades.{traded}
+use Rattle.book.specs.Tallies.{Tally}
 use Rattle.circular_margins.specs.declared.portfolio.Holding.{Holding}
 use Rattle.circular_margins.specs.declared.margins.Margins.{Margins}
 

@@ -1,7 +1,7 @@
 // Both margins of a portfolio: what a book of its trades replies, beside what the circular prints.
 ghost use Rattle.std.specs.Prelude.{◌≡◌, IfOk};
 ghost use Rattle.kinds.specs.ListedOptions.{listed};
-ghost use Rattle.book.specs.Tallies.{tally_of, Kept};
+ghost use Rattle.book.specs.Tallies.{tally_of};
 ghost use Rattle.circular_margins.specs.Replies.{portfolio, Right};
 
 use crate::amount::hundredths;
@@ -29,7 +29,7 @@ pub struct Margins {
 
 // A book with the trades of a portfolio, made in the order of its rows.
 fn opened(places: Places<Listed>, holdings: &[Holding]) -> Result<Book<Listed>, Refusal>
-    ensures { IfOk result (λ b. (tally_of b ≡ portfolio places.count holdings.now) × Kept listed (tally_of b)) }
+    ensures { IfOk result (λ b. tally_of b ≡ portfolio places.count holdings.now) }
 {
     let mut book = match Book::open(places, MARKET) {
         Ok(book) => book,

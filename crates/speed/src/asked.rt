@@ -1,7 +1,6 @@
 // The questions, asked many times over. The replies are added up, so that none can be left out.
 ghost use Rattle.std.specs.Prelude.{◌≡◌, ◌+◌, ◌%◌, ◌^◌};
-ghost use Rattle.kinds.specs.ListedOptions.{listed};
-ghost use Rattle.book.specs.Tallies.{tally_of, Kept};
+ghost use Rattle.book.specs.Tallies.{tally_of};
 ghost use Rattle.speed.specs.Checksums.{SumsMinimums, SumsRequireds};
 
 use book::Book;
@@ -16,7 +15,6 @@ fn plus(sum: u64, reply: u64) -> u64
 
 // The centavos and prices replied, added up.
 pub(crate) fn minimums(book: &Book<Listed>, times: u32) -> u64
-    requires { Kept listed (tally_of book.now) }
     ensures { SumsMinimums (tally_of book.now) times result }
 {
     let mut sum = 0;
@@ -29,7 +27,6 @@ pub(crate) fn minimums(book: &Book<Listed>, times: u32) -> u64
 
 // The centavos replied, added up; a refusal adds nothing.
 pub(crate) fn requireds(book: &Book<Listed>, scenarios: usize, values: &[u32], times: u32) -> u64
-    requires { Kept listed (tally_of book.now) }
     ensures { SumsRequireds (tally_of book.now) scenarios values.now times result }
 {
     let mut sum = 0;

@@ -1,7 +1,7 @@
 // The book that is measured: calls above the reference price and puts below it in turn, two sold and two bought.
 ghost use Rattle.std.specs.Prelude.{◌≡◌, ◌<◌, ◌≤◌, true, IfOk};
 ghost use Rattle.kinds.specs.ListedOptions.{listed};
-ghost use Rattle.book.specs.Tallies.{tally_of, Kept};
+ghost use Rattle.book.specs.Tallies.{tally_of};
 ghost use Rattle.speed.specs.Examples.{option_at, quantity_at, example};
 
 use book::{Book, Market, Places, Refusal};
@@ -43,10 +43,10 @@ fn quantity(i: usize) -> i32
     if i % 4 < 2 { -size } else { size }
 }
 
-// A book with so many positions, of which the promises of the margins hold.
+// A book with so many positions.
 pub(crate) fn opened(places: Places<Listed>, positions: usize) -> Result<Book<Listed>, Refusal>
     requires { positions ≤ 128 }
-    ensures { IfOk result (λ b. ((tally_of b).positions ≡ example positions) × Kept listed (tally_of b)) }
+    ensures { IfOk result (λ b. (tally_of b).positions ≡ example positions) }
 {
     let mut book = match Book::open(places, MARKET) {
         Ok(book) => book,

@@ -6,9 +6,6 @@ mod example;
 mod sizes;
 mod values;
 
-ghost use Rattle.kinds.specs.ListedOptions.{listed};
-ghost use Rattle.book.specs.Tallies.{tally_of, Kept};
-
 use asked::{minimums, requireds};
 use book::{Book, Places, Refusal};
 use example::opened;
@@ -17,9 +14,7 @@ use sizes::Sizes;
 use std::{env, io};
 use values::table;
 
-fn print_minimums(rt: &HostRuntime, book: &Book<Listed>, times: u32) -> io::Result<()>
-    requires { Kept listed (tally_of book.now) }
-{
+fn print_minimums(rt: &HostRuntime, book: &Book<Listed>, times: u32) -> io::Result<()> {
     match book.minimum() {
         (centavos, Some(price)) => print!(rt; "minimum {centavos} at {price}")?,
         (centavos, None) => print!(rt; "minimum {centavos} at no price")?,
@@ -34,9 +29,7 @@ fn print_requireds(
     scenarios: usize,
     values: &[u32],
     times: u32,
-) -> io::Result<()>
-    requires { Kept listed (tally_of book.now) }
-{
+) -> io::Result<()> {
     match book.required(scenarios, values) {
         Ok(centavos) => print!(rt; "required {centavos}")?,
         Err(refusal) => return print_refusal(rt, refusal),

@@ -17,4 +17,4 @@ pub returns : goal.returns
 returns c =
     let t = tally_of c.in_ok-book.book in
     let o = c.in_ok-book.ensures in
-    right t (portfolio c.args.places.count c.args.holdings.now) _ _ o.0 (c.minimum-minimum.ensures o.1) (c.in_ok-required.ensures.1 o.1)
+    right t (portfolio c.args.places.count c.args.holdings.now) _ _ o c.minimum-minimum.ensures (c.in_ok-required.ensures.told.1 c.required.ensures.kept)

@@ -6,7 +6,7 @@ use Rattle.speed.proofs.asked.minimums.Goals as goal
 pub loop-i-preserved : goal.loop-i-preserved
 loop-i-preserved c = λ n at m.
     let reply = c.minimum-centavos.result in
-    let same = one_margin _ _ _ _ _ (c.minimum-centavos.ensures c.requires) m in
+    let same = one_margin _ _ _ _ _ c.minimum-centavos.ensures m in
     let price : c.from.result ≡ unwrap_or at 0 = c.from.ensures ∙ c.unwrap_or.ensures ∙ ap (λ o. unwrap_or o 0) same.1 in
     let both : reply.0 + c.from.result ≡ n + unwrap_or at 0 = ap₂ (λ a b. a + b) same.0 price in
     more c.loop-i.sum c.loop-i.i (n + unwrap_or at 0) c.plus.result _ (c.loop-i.invariant n at m) (omega (arith, both, c.plus.ensures)) c.plus-sum.ensures

@@ -6,7 +6,7 @@ use Rattle.speed.proofs.asked.requireds.Goals as goal
 
 pub loop-i-preserved : goal.loop-i-preserved
 loop-i-preserved c = λ n h.
-    let e : c.unwrap_or.result ≡ n = c.unwrap_or.ensures ∙ replied listed (tally_of c.args.book.now) c.args.scenarios c.args.values.now c.required.result n c.requires h c.required.ensures in
+    let e : c.unwrap_or.result ≡ n = c.unwrap_or.ensures ∙ replied listed (tally_of c.args.book.now) c.args.scenarios c.args.values.now c.required.result n c.required.ensures.kept h c.required.ensures.told in
     more c.loop-i.sum c.loop-i.i n c.unwrap_or.result _ (c.loop-i.invariant n h) (ap (λ x. x % 2 ^ 64) e) c.plus-sum.ensures
 
 pub returns : goal.returns

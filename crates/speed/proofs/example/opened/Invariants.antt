@@ -1,8 +1,7 @@
 use Rattle.std.proofs.Common.{◌≡◌}
-use Rattle.kinds.specs.ListedOptions.{listed}
-use Rattle.book.specs.Tallies.{tally_of, Kept}
+use Rattle.book.specs.Tallies.{tally_of}
 use Rattle.speed.specs.Examples.{example}
 use Rattle.speed.proofs.example.opened.Given as goal
 
 abbrev pub invariant-loop-i : goal.invariant-loop-i
-invariant-loop-i l = ((tally_of l.book).positions ≡ example l.i) × Kept listed (tally_of l.book)
+invariant-loop-i l = (tally_of l.book).positions ≡ example l.i

@@ -5,6 +5,7 @@ use Rattle.std.proofs.lemmas.Int.{to_z-of_z}
 use Rattle.std.proofs.lemmas.List.{get_or_default}
 use Rattle.book.specs.declared.position.Position.{Position}
 use Rattle.book.specs.Losses.{gross, all_held}
+use Rattle.book.specs.Tallies.{Kept, tally_of, holding}
 use Rattle.book.specs.Trades.{traded_at}
 use Rattle.book.proofs.ValueBounds.{net_small}
 use Rattle.book.proofs.TradedLists.{at_held, at_zero, at_some}
@@ -33,7 +34,8 @@ invariant_of-self g c =
     let n = net_small ps i p c.requires.within c.index.ensures old.few in
     let zero : p.net +ℤ q ≡ pos 0 = sym (sum_is p.net q n c.requires.small) ∙ ap (to_z w32) c.if-net-eq0.true in
     let items = c.remove.ensures.items ∙ sym (at_zero ps i p q zero) in
-    let few = subst (λ o. gross (traded_at ps i o q) ≤ 10000) (sym c.index.ensures) (c.requires.few p) in record {
+    let few = subst (λ o. gross (traded_at ps i o q) ≤ 10000) (sym c.index.ensures) (c.requires.few p) in
+    let kept = subst (λ qs. Kept g.K.Kind.means (holding (tally_of old) qs)) (sym items) (subst (λ o. Kept g.K.Kind.means (holding (tally_of old) (traded_at ps i o q))) (sym c.index.ensures) (c.requires.kept p)) in record {
       some = old.some;
       most = old.most;
       within = omega (arith, old.within, c.remove.ensures.len);
@@ -42,6 +44,8 @@ invariant_of-self g c =
       few = omega (arith, ap gross items, few);
       held = ap all_held items ∙ at_held ps i p q old.held;
       spare = old.spare;
+      fitting = kept.fitting;
+      distinct = kept.distinct;
     }
 
 -- a sum that is not 0 in 32 bits is not zero
@@ -67,7 +71,8 @@ invariant_of-self-else-net-eq0 g c =
     let n = net_small ps i p c.requires.within c.index.ensures old.few in
     let some = sum_some p.net q n c.requires.small c.if-net-eq0.false in
     let items = set_is ps i p c.index_mut.result.now q _ c.requires.within c.index.ensures c.index_mut.ensures.value (sum_is p.net q n c.requires.small) some in
-    let few = subst (λ o. gross (traded_at ps i o q) ≤ 10000) (sym c.index.ensures) (c.requires.few p) in record {
+    let few = subst (λ o. gross (traded_at ps i o q) ≤ 10000) (sym c.index.ensures) (c.requires.few p) in
+    let kept = subst (λ qs. Kept g.K.Kind.means (holding (tally_of old) qs)) (sym items) (subst (λ o. Kept g.K.Kind.means (holding (tally_of old) (traded_at ps i o q))) (sym c.index.ensures) (c.requires.kept p)) in record {
       some = old.some;
       most = old.most;
       within = old.within;
@@ -76,6 +81,8 @@ invariant_of-self-else-net-eq0 g c =
       few = omega (arith, ap gross items, few);
       held = ap all_held items ∙ at_held ps i p q old.held;
       spare = old.spare;
+      fitting = kept.fitting;
+      distinct = kept.distinct;
     }
 
 pub returns-else-net-eq0 : goal.returns-else-net-eq0

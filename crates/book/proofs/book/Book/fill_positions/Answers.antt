@@ -1,9 +1,10 @@
-use Rattle.std.proofs.Common.{◌≡◌, ℕ, suc, ◌+◌, ◌-◌, cond, [], ◌∷◌, ◌++◌, length, nat_abs, is_some, None, vec_items, sym, refl, ap, ◌∙◌, ap₂, arith}
+use Rattle.std.proofs.Common.{◌≡◌, ℕ, suc, ◌+◌, ◌-◌, cond, [], ◌∷◌, ◌++◌, length, nat_abs, is_some, None, vec_items, sym, refl, ap, ◌∙◌, subst, ap₂, arith}
 use Rattle.std.specs.Option.{option_to_list}
 use Rattle.sheet.specs.Cuts.{after}
 use Rattle.book.specs.Losses.{gross}
 use Rattle.book.specs.SheetReading.{unread, past, after_lines, position_told, positions_told, positions_fault}
-use Rattle.book.specs.Tallies.{tally_of}
+use Rattle.book.specs.Tallies.{Kept, tally_of, holding}
+use Rattle.book.proofs.FinePositions.{fine_push}
 use Rattle.book.proofs.ReadingLines.{after_more, told_more}
 use Rattle.book.proofs.PositionFaults.{good_line, well_told, own_some, own_most, over_few, told_most}
 use Rattle.book.proofs.ValueBounds.{same_net}
@@ -39,6 +40,11 @@ append-requires g c =
       room = omega (arith, c.loop.self.positions.ok.0, ap length items, told_most s i b0, c.loop-test.true, c.requires.room, ap (λ t. t.places) c.loop.invariant.3);
       some = omega (arith, ap nat_abs net, own_some K s m line p good.own);
       few = omega (arith, ap nat_abs net, ap gross items, over_few K line above p good.over);
+      kept =
+          let old = subst (Kept K) c.loop.invariant.3 (record { fitting = c.loop.self.fitting; distinct = c.loop.self.distinct }) in
+          let new = fine_push K s m line c.args.self.now.places above p good.own good.over old in
+          let at = subst (λ t. Kept K (holding t (t.positions ++ p ∷ []))) (sym c.loop.invariant.3) new in
+          subst (λ z. Kept K (holding (tally_of c.loop.self) (vec_items c.loop.self.positions ++ record { contract = p.contract; net = z } ∷ []))) (sym net) at;
     }
 
 pub loop-preserved : goal.loop-preserved

@@ -2,7 +2,8 @@ use Rattle.std.proofs.Common.{◌≡◌, cond, ltb, [], is_some, Some, None, vec
 use Rattle.std.proofs.lemmas.List.{nil_from_length}
 use Rattle.std.proofs.lemmas.Bool.{or_from, le-ltb}
 use Rattle.book.specs.declared.refusal.Refusal.TheVariants.{Places}
-use Rattle.book.specs.Losses.{gross, all_held}
+use Rattle.book.specs.Losses.{gross, all_held, Fitting, Distinct}
+use Rattle.book.specs.Markets.{variation_of}
 use Rattle.book.specs.Tallies.{Kept, or_else}
 use Rattle.book.proofs.book.Book.open.Goals as goal
 
@@ -18,6 +19,8 @@ invariant_of-result g c =
       few = omega (arith, ap gross e);
       held = ap all_held e;
       spare = omega (arith, places.spare);
+      fitting = subst (Fitting g.K.Kind.means (variation_of c.args.market) c.args.market.ceiling) (sym e) tt;
+      distinct = subst (Distinct g.K.Kind.means) (sym e) tt;
     }
 
 pub returns : goal.returns

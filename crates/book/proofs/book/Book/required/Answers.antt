@@ -6,6 +6,7 @@ use Rattle.book.specs.Losses.{loss, gross}
 use Rattle.book.specs.Markets.{variation_of, price_unit, value_unit}
 use Rattle.book.specs.Prices.{Least, CoversBoth}
 use Rattle.book.specs.Scenarios.{scenario_losses, greatest, first_above}
+use Rattle.book.proofs.LawfulRuns.{kept}
 use Rattle.book.proofs.MarketFacts.{right, unit_low, stressed_most}
 use Rattle.book.proofs.ScenarioCovers.{both_least, none_above}
 use Rattle.book.proofs.book.Book.required.Goals as goal
@@ -38,12 +39,15 @@ returns g c =
     let refusal =
     ap (λ b. cond b (Some Scenarios) (cond (not (eqb (length table) (s * length ps))) (Some TableLength) (option_map (λ i. ScenarioValue i) (first_above (100 * m.ceiling) table)))) inside
     ∙ ap (λ b. cond (not b) (Some TableLength) (option_map (λ i. ScenarioValue i) (first_above (100 * m.ceiling) table))) (eq-eqb (length table) (s * length ps) whole)
-    ∙ ap (option_map (λ i. ScenarioValue i)) (sym c.first_above.ensures ∙ c.in_default.is) in (
-      refusal,
-      λ k.
-          let least = (c.minimum-minimum.ensures k).covers in
-          let stressed = c.scenario_margin-stressed.ensures ∙ ap₂ (λ u qs. greatest 0 (scenario_losses u qs s table)) c.value_unit.ensures c.as_slice.ensures.value in
-          let n = c.max.ensures ∙ ap (max c.minimum-minimum.result.0) stressed in
-          subst (Least (CoversBoth (loss K (variation_of m) (price_unit m) ps) (scenario_losses (value_unit m) ps s table))) (sym n)
-          (both_least (loss K (variation_of m) (price_unit m) ps) (scenario_losses (value_unit m) ps s table) c.minimum-minimum.result.0 least),
-    )
+    ∙ ap (option_map (λ i. ScenarioValue i)) (sym c.first_above.ensures ∙ c.in_default.is) in record {
+      told = (
+        refusal,
+        λ k.
+            let least = c.minimum-minimum.ensures.covers in
+            let stressed = c.scenario_margin-stressed.ensures ∙ ap₂ (λ u qs. greatest 0 (scenario_losses u qs s table)) c.value_unit.ensures c.as_slice.ensures.value in
+            let n = c.max.ensures ∙ ap (max c.minimum-minimum.result.0) stressed in
+            subst (Least (CoversBoth (loss K (variation_of m) (price_unit m) ps) (scenario_losses (value_unit m) ps s table))) (sym n)
+            (both_least (loss K (variation_of m) (price_unit m) ps) (scenario_losses (value_unit m) ps s table) c.minimum-minimum.result.0 least),
+      );
+      kept = kept old;
+    }

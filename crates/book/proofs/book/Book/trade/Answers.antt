@@ -6,9 +6,10 @@ use Rattle.std.proofs.lemmas.Int.{to_z-of_z}
 use Rattle.std.proofs.lemmas.Bool.{or_from, le-ltb}
 use Rattle.book.specs.declared.position.Position.{Position}
 use Rattle.book.specs.Markets.{outside}
-use Rattle.book.specs.Tallies.{tally_of, holding, ends_refusal, Told}
+use Rattle.book.specs.Tallies.{Kept, tally_of, holding, ends_refusal, Told}
 use Rattle.book.specs.Trades.{traded_at}
 use Rattle.book.proofs.EndRefusals.{ended}
+use Rattle.book.proofs.KeptTallies.{traded_kept}
 use Rattle.book.proofs.TradedLists.{traded_held, traded_new, put_some}
 use Rattle.book.proofs.book.Book.trade.Goals as goal
 
@@ -23,6 +24,32 @@ not_zero (negsuc n) h = omega arith
 -- What the search for the contract found.
 abbrev Found : {C : Type 0} → Meaning C → C → ℕ → List (Position C) → Type 0
 Found {C} K c i ps = (i < length ps) × AllByRecursion (λ p. K.same p.contract c ≡ false) (take i ps) × ((d : Position C) → K.same (get_or ps i d).contract c ≡ true)
+
+pub trade_held-requires-clause-kept : goal.trade_held-requires-clause-kept
+trade_held-requires-clause-kept g c = λ d.
+    let K = g.K.Kind.means in
+    let old = c.args.self.now in
+    let ps = vec_items old.positions in
+    let i = c.in-Some.index in
+    let p = get_or ps i d in
+    let q = to_z-of_z w32 c.args.quantity c.ranges.quantity in
+    let f = subst (Found K c.args.contract i) c.as_slice.ensures.value c.in-Some.ensures in
+    let fits = ap (λ v. K.fits c.args.contract v old.market.ceiling) (sym c.variation.ensures) ∙ sym c.if-not-fits.ensures.told in
+    let e = traded_held K c.args.contract c.args.quantity ps i p f.0 (get_or_default ps i d p f.0) f.1 (f.2 d) in
+    subst (λ z. Kept K (holding (tally_of old) (traded_at ps i p z))) (sym q) (subst (λ qs. Kept K (holding (tally_of old) qs)) e (traded_kept K (tally_of old) c.args.contract c.args.quantity (record { fitting = old.fitting; distinct = old.distinct }) fits))
+
+pub trade_new-requires-clause-kept : goal.trade_new-requires-clause-kept
+trade_new-requires-clause-kept g c =
+    let K = g.K.Kind.means in
+    let old = c.args.self.now in
+    let ps = vec_items old.positions in
+    let q = to_z-of_z w32 c.args.quantity c.ranges.quantity in
+    let f = subst (AllByRecursion (λ p. K.same p.contract c.args.contract ≡ false)) c.as_slice.ensures.value c.in-None.ensures in
+    let some = not_zero c.args.quantity c.if-quantity-eq0.false in
+    let fits = ap (λ v. K.fits c.args.contract v old.market.ceiling) (sym c.variation.ensures) ∙ sym c.if-not-fits.ensures.told in
+    let new : ℤ → List (Position g.row.K.Denot) = λ z. ps ++ record { contract = c.args.contract; net = z } ∷ [] in
+    let e = traded_new K c.args.contract c.args.quantity ps f ∙ ap (λ qs. ps ++ qs) (put_some c.args.contract c.args.quantity [] some) in
+    subst (λ z. Kept K (holding (tally_of old) (new z))) (sym q) (subst (λ qs. Kept K (holding (tally_of old) qs)) e (traded_kept K (tally_of old) c.args.contract c.args.quantity (record { fitting = old.fitting; distinct = old.distinct }) fits))
 
 pub returns-in-Some : goal.returns-in-Some
 returns-in-Some g c =

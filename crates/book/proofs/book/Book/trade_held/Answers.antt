@@ -1,7 +1,7 @@
 use Rattle.std.proofs.Common.{◌≤◌, get_or, nat_abs, vec_items, sym, refl, ap, ◌∙◌, subst, ap₂, arith, w32, to_z, of_z}
 use Rattle.std.proofs.lemmas.Int.{to_z-of_z}
 use Rattle.book.specs.Losses.{gross}
-use Rattle.book.specs.Tallies.{tally_of, holding}
+use Rattle.book.specs.Tallies.{Kept, tally_of, holding}
 use Rattle.book.specs.Trades.{traded_at}
 use Rattle.book.proofs.EndRefusals.{too_many_contracts, ends_well}
 use Rattle.book.proofs.TradedLists.{length_at}
@@ -27,6 +27,7 @@ add-requires g c =
       few = λ d.
           let e = c.contracts_after.ensures d ∙ ap (λ qs. gross (traded_at qs i (get_or qs i d) (to_z w32 (of_z w32 c.args.quantity)))) c.as_slice.ensures.value in
           omega (arith, e, c.if-contracts_after-gt10000.false);
+      kept = λ d. subst (λ z. Kept g.K.Kind.means (holding (tally_of c.args.self.now) (traded_at ps i (get_or ps i d) z))) (sym q) (c.requires.kept d);
     }
 
 pub returns : goal.returns

@@ -3,6 +3,7 @@ use lib.ListN.{length-map}
 use Rattle.sheet.specs.LineTexts.{line_text}
 use Rattle.book.specs.SheetTexts.{sheet_lines, position_line}
 use Rattle.book.specs.Tallies.{tally_of}
+use Rattle.book.proofs.LawfulRuns.{kept}
 use Rattle.book.proofs.SheetBooks.{readable}
 use Rattle.book.proofs.JoinedLines.{text, text_on, text_most, put_next}
 use Rattle.book.proofs.book.Book.write.Goals as goal
@@ -49,12 +50,12 @@ returns g c =
         omega (arith, c.sheet_len-needed.ensures, c.if-out-needed.false),
         c.loop-i.invariant.2 ∙ ap₂ (λ xs n. xs ++ drop n old) (ap text all) (c.loop-i.invariant.1 ∙ ap (λ ls. length (text ls)) all),
       );
-      readable = readable g.K.Kind.means s g.met.K.Stored.storable book;
+      readable = readable g.K.Kind.means s g.met.K.Stored.storable book (kept book);
     }
 
 pub returns-then-out-needed : goal.returns-then-out-needed
 returns-then-out-needed g c =
     record {
       told = search rules;
-      readable = readable g.K.Kind.means g.K.Stored.stored g.met.K.Stored.storable c.args.self.now;
+      readable = readable g.K.Kind.means g.K.Stored.stored g.met.K.Stored.storable c.args.self.now (kept c.args.self.now);
     }
