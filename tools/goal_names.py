@@ -1,6 +1,6 @@
 #!/usr/bin/env python3
 """Respells the names of goals and steps in answers and invariants: a name from the source keeps its underscores, and so do
-Rattle's own words, as `loop-my_var-preserved`, `in_ok-push`, `overflow_add-n`."""
+Rattle's own words, as `loop-my_var-preserved`, `in_ok-push`, `overflow_add-n`. It ran once, at the top, after respell.py, and is kept as a record."""
 import glob
 import re
 

@@ -2,7 +2,8 @@
 """Respells this repository's own definitions and lemmas as today's Rattle spells its words.
 
 Words are in snake case, types and facts in camel case: `payment-under` becomes `payment_under`, `Where-fits` becomes
-`WhereFits`. Run once, at the top, after the kit's own script. Names of src/, of Rattle and of its library stay, and so do
+`WhereFits`. It ran once, at the top, after the kit's own script (the second line of docs/PORT.md names the commit),
+and is kept as a record of what was renamed: on today's tree it finds nothing to do. Names of src/, of Rattle and of its library stay, and so do
 the goals that Rattle names (the public names of an Answers or Invariants file).
 """
 import collections
@@ -90,6 +91,8 @@ def main():
         if new in standing:
             print("stands already:", name, new)
     if "--dry" in sys.argv:
+        return
+    if not table:
         return
     any_name = re.compile(r"(?<![A-Za-z0-9_'-])(" + "|".join(sorted(map(re.escape, table), key=len, reverse=True)) + r")(?![A-Za-z0-9_'-])")
 

@@ -1,5 +1,5 @@
 -- Every run of a kept tally is right, and its trades add up.
-use Rattle.std.proofs.Common.{◌≡◌, ℕ, ◌*◌, ◌≤◌, List, ℤ, pos, ◌+ℤ◌, sym, ap, ◌∙◌, subst, mul_assoc, arith}
+use Rattle.std.proofs.Common.{◌≡◌, ℕ, ◌*◌, ◌≤◌, ℤ, pos, ◌+ℤ◌, sym, ap, ◌∙◌, subst, mul_assoc, arith}
 use borrow.Author.Differences.{ints}
 use Rattle.kinds.specs.Kinds.{Meaning, Lawful}
 use Rattle.book.specs.declared.call.Call.{Call}
@@ -9,7 +9,7 @@ use Rattle.book.specs.declared.call.Reply.TheVariants as reply
 use Rattle.book.specs.Losses.{sold}
 use Rattle.book.specs.Markets.{variation_of, price_unit, unit_margin}
 use Rattle.book.specs.Prices.{Least, Covers, centavos}
-use Rattle.book.specs.RunLaws.{Answers, Effects, Moves, RightRun, ends, goes, RunsRight, added, NetsAddUp}
+use Rattle.book.specs.RunLaws.{Answers, Effects, Moves, ends, goes, RunsRight, added, NetsAddUp}
 use Rattle.book.specs.Runs.{loss_of, Step, none, more}
 use Rattle.book.specs.Tallies.{Tally, Kept, holding}
 use Rattle.book.specs.Trades.{traded, net_in}
@@ -108,7 +108,3 @@ module _ {C : Type 0} (K : Meaning C) (laws : Lawful K) where
       let a = step_adds d t c r u s in
       let b = nets_add_up u e cs rs rest d in
       omega (arith, ints, a, b)
-
-  pub kept_end : (t e : Tally C) (cs : List (Call C)) (rs : List Reply) → RightRun K t cs rs e → Kept K e
-  kept_end _ _ _ _ (ends t k) = k
-  kept_end _ _ _ _ (goes t c r u cs rs e k s a f rest) = kept_end u e cs rs rest

@@ -23,7 +23,7 @@ use Rattle.book.proofs.SheetFaults.{or_both, when_not, not_when, well_from, from
 use Rattle.book.proofs.SheetLines.{number_formed, number_reads, number_back, five_formed, head_reads, market_back, positions_back}
 use Rattle.book.proofs.SheetPositions.{lines_of, lines_length, lines_read, LinesAccepted, lines_accepted}
 
--- So does that of every tally that keeps the rules.
+-- The sheet of every tally that keeps the rules reads back.
 abbrev ReadsBack : {C : Type 0} → Meaning C → Storing C → Type 0
 ReadsBack {C} K s = (t : Tally C) → Valid K t → Readable K s t
 
@@ -141,13 +141,13 @@ module _ {C : Type 0} (K : Meaning C) (s : Storing C) (laws : Storable K s) wher
       )
 
   -- What an accepted sheet tells.
-  pub record Accepted (places : ℕ) (bs : List ℕ) : Type 0 where
+  record Telling (places : ℕ) (bs : List ℕ) : Type 0 where
     pub market : MarketRight bs
     pub head : well_formed (head_forms Positions) (after_lines 6 bs) ≡ true
     pub enough : count_told bs ≤ places
     pub lines : LinesAccepted K s laws (market_told bs) (count_told bs) [] (after_lines 7 bs) (positions_told s (count_told bs) (after_lines 7 bs))
 
-  accepted : (places : ℕ) (bs : List ℕ) → sheet_fault K s places bs ≡ None → Accepted places bs
+  accepted : (places : ℕ) (bs : List ℕ) → sheet_fault K s places bs ≡ None → Telling places bs
   accepted places bs h =
       let a = or_both (when (ltb 65536 (length bs)) (fault.Book 0 book_cause.TooLong)) _ h in
       let b = or_both (market_fault bs) _ a.1 in

@@ -36,9 +36,9 @@ start_refusal K s places (Fresh m) = open_refusal places m
 start_refusal K s places (Sheet bs) = sheet_refusal K s places bs.now
 
 -- The tally that a book starts with.
-abbrev pub started : {C : Type 0} → Storing C → ℕ → Start → Tally C
-started s places (Fresh m) = fresh places m
-started s places (Sheet bs) = tally_told s places bs.now
+abbrev pub start_tally : {C : Type 0} → Storing C → ℕ → Start → Tally C
+start_tally s places (Fresh m) = fresh places m
+start_tally s places (Sheet bs) = tally_told s places bs.now
 
 -- Too few places for the replies.
 abbrev pub replies_refusal : {C : Type 0} → List (Call C) → List Reply → Option Refusal

@@ -1,5 +1,5 @@
 -- The tally: a plain list of positions with places and a market, and what each call does to it.
-use Rattle.std.specs.Prelude.{◌≡◌, ℕ, suc, ◌<◌, ◌≤◌, true, false, cond, not, List, [], ◌∷◌, length, ℤ, Some, None, Ok, Err, vec_items, Option, Result, nat_lt, slice_index_or, unsigned_abs}
+use Rattle.std.specs.Prelude.{◌≡◌, ℕ, suc, ◌<◌, ◌≤◌, true, cond, not, List, [], ◌∷◌, length, ℤ, Some, None, Ok, Err, vec_items, Option, Result, nat_lt, slice_index_or, unsigned_abs}
 use Rattle.std.specs.Option.{option_map}
 use Rattle.kinds.specs.declared.kind.Kind.{Ghosts}
 use Rattle.kinds.specs.Kinds.{Meaning}

@@ -1,4 +1,4 @@
--- What is proved of every kind of contract that keeps the rules, as statements that a function's contract can name.
+-- What is proved of every kind of contract that keeps the rules, and of listed and flexible books, as statements that a function's contract can name.
 -- In all of them v is the variation, u the ceiling, scale the exact units for one hundredth of a point of one contract,
 -- and ps the positions of a book.
 use Rattle.std.specs.Prelude.{◌≡◌, ℕ, ◌*◌, ◌≤◌, cond, List, [], ◌∷◌, map, ℤ, pos, ◌+ℤ◌, ◌*ℤ◌, neg_ℤ, ◌≤ℤ◌, None, fold, Option}
@@ -49,7 +49,7 @@ PurchasesLower {C} K =
     (v scale : ℕ) (ps : List (Position C)) (c : C) (q : ℤ) → pos 0 ≤ℤ q →
     (m n : ℕ) → Least (Covers (loss K v scale ps)) m → Least (Covers (loss K v scale (traded K c q ps))) n → n ≤ m
 
--- It never passes the variation of every single contract held sold, summed and rounded up.
+-- It never passes the unit minimum margins of all contracts held sold, summed and rounded up.
 abbrev pub SoldBounds : {C : Type 0} → Meaning C → Type 0
 SoldBounds {C} K =
     (v u scale : ℕ) (ps : List (Position C)) → Fitting K v u ps →

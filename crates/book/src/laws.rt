@@ -49,6 +49,8 @@ pub fn examples_hold() -> u8
     0
 }
 
+// Most of these laws once more, each alone; corners_bound, trades_add_up, run_law and nets_add_up stand only here.
+
 // What bounds the loss at price 0 and at the corners bounds it at every whole price.
 pub(crate) fn corners_bound<K: Kind>() -> u8
     ensures { CornersBound K.Kind.means }

@@ -1,7 +1,7 @@
 // Starting a book, fresh or from a sheet, and running a list of calls.
 ghost use Rattle.std.specs.Prelude.{◌≡◌, Some, None, vec_len, MatchResult};
 ghost use Rattle.book.specs.SheetReading.{tally_told};
-ghost use Rattle.book.specs.Starts.{fresh, sheet_refusal, start_refusal, started, Started};
+ghost use Rattle.book.specs.Starts.{fresh, sheet_refusal, start_refusal, start_tally, Started};
 ghost use Rattle.book.specs.Tallies.{Valid, tally_of, open_refusal};
 
 use crate::book::Book;
@@ -85,7 +85,7 @@ impl<K: Stored> Book<K> {
         calls: &[Call<K>],
         replies: &mut [Reply],
     ) -> Result<Book<K>, (Refusal, Places<K>)>
-        ensures { Started K.Kind.means places.count (start_refusal K.Kind.means K.Stored.stored places.count start.entry) (started K.Stored.stored places.count start.entry) calls.now replies.old replies.new result }
+        ensures { Started K.Kind.means places.count (start_refusal K.Kind.means K.Stored.stored places.count start.entry) (start_tally K.Stored.stored places.count start.entry) calls.now replies.old replies.new result }
     {
         match start {
             Start::Fresh(market) => Book::open_and_run(places, market, calls, replies),

@@ -59,3 +59,55 @@ fn runs(rt: HostRuntime) -> Result<(), Fail> {
     assert_eq!(rt; told(replies[3]), 11_539_500u64);
     Ok(())
 }
+
+// The number of the cause for which a book is not started, or 0.
+fn refused_start(
+    rt: &HostRuntime,
+    places: usize,
+    start: Start,
+    calls: &[Call<Listed>],
+    replies: &mut [Reply],
+) -> Result<u32, Fail> {
+    let reserved: Places<Listed> = Places::reserve(rt.alloc(), places)?;
+    match Book::start(reserved, start, calls, replies) {
+        Ok(_) => Ok(0),
+        Err((refusal, _)) => Ok(refusal.number()),
+    }
+}
+
+// The causes in rising number, but too long a sheet before all.
+#[test]
+fn starts_turned_away(rt: HostRuntime) -> Result<(), Fail> {
+    let calls: [Call<Listed>; 1] = [Call::Minimum];
+    let mut none = [Reply::Done; 0];
+    let no_market = Start::Fresh(market((0, 1, 0, 1, 1)));
+    assert_eq!(rt; refused_start(&rt, 0, no_market, &calls, &mut none)?, 1u32);
+    assert_eq!(rt;
+        refused_start(&rt, 0, Start::Fresh(MARKET), &calls, &mut none)?,
+        3u32
+    );
+    assert_eq!(rt;
+        refused_start(&rt, 1, Start::Fresh(MARKET), &calls, &mut none)?,
+        17u32
+    );
+    let longer = vec![in rt.alloc(); 120u8; 65537]?;
+    assert_eq!(rt;
+        refused_start(&rt, 0, Start::Sheet(longer.as_slice()), &calls, &mut none)?,
+        19u32
+    );
+    let bad = "market 6\n".as_bytes();
+    assert_eq!(rt;
+        refused_start(&rt, 0, Start::Sheet(bad), &calls, &mut none)?,
+        3u32
+    );
+    assert_eq!(rt;
+        refused_start(&rt, 1, Start::Sheet(bad), &calls, &mut none)?,
+        16u32
+    );
+    let good = "market 5\n1000\n1000\n10\n1\n1\npositions 1\nC 500 -1\n".as_bytes();
+    assert_eq!(rt;
+        refused_start(&rt, 1, Start::Sheet(good), &calls, &mut none)?,
+        17u32
+    );
+    Ok(())
+}

@@ -10,8 +10,7 @@ use margins::Margins;
 use portfolio::Holding;
 use std::io;
 
-const JA03: Holding<'static> = Holding {
-    name: "DOL-JA03",
+const JA03: Holding = Holding {
     option: Listed {
         side: Side::Call,
         strike: 375_000,
@@ -19,8 +18,7 @@ const JA03: Holding<'static> = Holding {
     quantity: 60,
 };
 
-const JA04: Holding<'static> = Holding {
-    name: "DOL-JA04",
+const JA04: Holding = Holding {
     option: Listed {
         side: Side::Call,
         strike: 380_000,
@@ -28,8 +26,7 @@ const JA04: Holding<'static> = Holding {
     quantity: -30,
 };
 
-const JA05: Holding<'static> = Holding {
-    name: "DOL-JA05",
+const JA05: Holding = Holding {
     option: Listed {
         side: Side::Call,
         strike: 385_000,
@@ -37,8 +34,7 @@ const JA05: Holding<'static> = Holding {
     quantity: -30,
 };
 
-const JA99: Holding<'static> = Holding {
-    name: "DOL-JA99",
+const JA99: Holding = Holding {
     option: Listed {
         side: Side::Put,
         strike: 200_000,

@@ -3,8 +3,7 @@ use kinds::Listed;
 
 // An option of a portfolio, with its net quantity: bought above zero, sold below.
 #[derive(Clone, Copy)]
-pub struct Holding<'a> {
-    pub name: &'a str,
+pub struct Holding {
     pub option: Listed,
     pub quantity: i32,
 }

@@ -9,6 +9,7 @@ pub mod ListedLines
 pub mod FlexibleLines
 pub mod LineBytes
 pub mod FirstFields
+-- lemmas, which the laws of the kinds cite
 pub mod FlexibleLaws
 pub mod Numerals
 pub mod Letters

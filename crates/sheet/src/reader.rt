@@ -33,6 +33,7 @@ impl<'a> Reader<'a> {
             lines: 0,
         }
     }
+
     // The number of the line that comes next.
     pub fn line(&self) -> usize
         ensures { result ≡ self.now.lines + 1 }

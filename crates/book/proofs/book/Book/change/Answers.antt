@@ -1,4 +1,4 @@
-use Rattle.std.proofs.Common.{vec_items, is_some, None, sym, ap, ◌∙◌, ap₂}
+use Rattle.std.proofs.Common.{vec_items, is_some, sym, ap, ◌∙◌, ap₂}
 use Rattle.book.specs.Tallies.{first_unfit}
 use Rattle.book.proofs.KeptTallies.{all_fit}
 use Rattle.book.proofs.book.Book.change.Goals as goal

@@ -2,7 +2,7 @@ use Rattle.std.proofs.Common.{vec_items, sym, subst}
 use Rattle.book.specs.Losses.{loss, Sound}
 use Rattle.book.specs.Markets.{variation_of, price_unit}
 use Rattle.book.specs.Prices.{Margin}
-use Rattle.book.proofs.LawfulRuns.{kept}
+use Rattle.book.proofs.LawfulRuns.{valid}
 use Rattle.book.proofs.MarketFacts.{right}
 use Rattle.book.proofs.book.Book.minimum.Goals as goal
 
@@ -10,7 +10,7 @@ pub returns : goal.returns
 returns g c =
     let K = g.K.Kind.means in
     let old = c.args.self.now in
-    let k = kept old in
+    let k = (valid old).kept in
     let m = old.market in
     let ps = vec_items old.positions in
     let s : Sound K (variation_of m) m.ceiling ps = record { fitting = k.fitting; low = (right m old.right).ceiling_low } in

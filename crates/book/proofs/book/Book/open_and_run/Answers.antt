@@ -1,8 +1,8 @@
-use Rattle.std.proofs.Common.{length, take, sym, refl, ap, ◌∙◌, subst}
+use Rattle.std.proofs.Common.{length, take, sym, refl, ap, subst}
 use Rattle.book.specs.RunLaws.{LawfulRun}
 use Rattle.book.specs.Starts.{Started}
 use Rattle.book.specs.Tallies.{tally_of}
-use Rattle.book.proofs.LawfulRuns.{enough, too_few, own_cause}
+use Rattle.book.proofs.LawfulRuns.{enough, own_cause}
 use Rattle.book.proofs.ReadingLines.{handed_on}
 use Rattle.book.proofs.book.Book.open_and_run.Goals as goal
 

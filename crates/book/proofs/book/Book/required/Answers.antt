@@ -6,7 +6,7 @@ use Rattle.book.specs.Losses.{loss, gross}
 use Rattle.book.specs.Markets.{variation_of, price_unit, value_unit}
 use Rattle.book.specs.Prices.{Least, CoversBoth}
 use Rattle.book.specs.Scenarios.{scenario_losses, greatest, first_above}
-use Rattle.book.proofs.LawfulRuns.{kept}
+use Rattle.book.proofs.LawfulRuns.{valid}
 use Rattle.book.proofs.MarketFacts.{right, unit_low, stressed_most}
 use Rattle.book.proofs.ScenarioCovers.{both_least, none_above}
 use Rattle.book.proofs.book.Book.required.Goals as goal
@@ -49,5 +49,5 @@ returns g c =
             subst (Least (CoversBoth (loss K (variation_of m) (price_unit m) ps) (scenario_losses (value_unit m) ps s table))) (sym n)
             (both_least (loss K (variation_of m) (price_unit m) ps) (scenario_losses (value_unit m) ps s table) c.minimum-minimum.result.0 least),
       );
-      kept = kept old;
+      kept = (valid old).kept;
     }

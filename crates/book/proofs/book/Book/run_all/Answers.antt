@@ -2,7 +2,7 @@ use Rattle.std.proofs.Common.{◌≡◌, ◌+◌, ◌<◌, [], ◌∷◌, ◌++�
 use Rattle.std.proofs.lemmas.List.{take_more, take_more_set, drop-set-lt}
 use Rattle.book.specs.Runs.{Run, none}
 use Rattle.book.specs.Tallies.{tally_of}
-use Rattle.book.proofs.LawfulRuns.{kept, rules, lawful}
+use Rattle.book.proofs.LawfulRuns.{valid, lawful}
 use Rattle.book.proofs.RunSteps.{run_push}
 use Rattle.book.proofs.book.Book.run_all.Goals as goal
 
@@ -41,6 +41,6 @@ returns g c =
     let run = subst (λ ds. Run K t ds (take (length cs) rs) u) (take_all i cs c.loop-i-test.false) (subst (λ n. Run K t (take i cs) (take n rs) u) e c.loop-i.invariant.1) in
     record {
       run = run;
-      law = lawful K g.met.K.Kind.lawful t u cs (take (length cs) rs) (kept c.args.self.now) run (rules book);
+      law = lawful K g.met.K.Kind.lawful t u cs (take (length cs) rs) (valid c.args.self.now).kept run (valid book);
       rest = c.loop-i.invariant.2;
     }

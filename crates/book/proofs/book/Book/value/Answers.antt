@@ -3,7 +3,7 @@ use borrow.Author.Differences.{ints}
 use Rattle.std.proofs.lemmas.Int.{to_z-of_z}
 use Rattle.book.specs.Losses.{value, Sound}
 use Rattle.book.specs.Markets.{variation_of}
-use Rattle.book.proofs.LawfulRuns.{kept}
+use Rattle.book.proofs.LawfulRuns.{valid}
 use Rattle.book.proofs.MarketFacts.{right}
 use Rattle.book.proofs.book.Book.value.Goals as goal
 
@@ -21,5 +21,5 @@ returns g c =
             let o = c.protected_value.type_inv in
             to_z-of_z w64 c.protected_value.result (omega (arith, ints)) ∙ c.protected_value.ensures.exact u t c.if-price-self.false ∙ ap₂ (λ v qs. value K v qs c.args.price) c.variation.ensures c.as_slice.ensures.value,
       );
-      kept = kept old;
+      kept = (valid old).kept;
     }

@@ -3,8 +3,8 @@ use lib.ListN.{length-map}
 use Rattle.sheet.specs.LineTexts.{line_text}
 use Rattle.book.specs.SheetTexts.{sheet_lines, position_line}
 use Rattle.book.specs.Tallies.{tally_of}
-use Rattle.book.proofs.LawfulRuns.{kept}
-use Rattle.book.proofs.SheetBooks.{readable}
+use Rattle.book.proofs.LawfulRuns.{valid}
+use Rattle.book.proofs.SheetRoundTrips.{reads_back}
 use Rattle.book.proofs.JoinedLines.{text, text_on, text_most, put_next}
 use Rattle.book.proofs.book.Book.write.Goals as goal
 
@@ -50,12 +50,12 @@ returns g c =
         omega (arith, c.sheet_len-needed.ensures, c.if-out-needed.false),
         c.loop-i.invariant.2 ∙ ap₂ (λ xs n. xs ++ drop n old) (ap text all) (c.loop-i.invariant.1 ∙ ap (λ ls. length (text ls)) all),
       );
-      readable = readable g.K.Kind.means s g.met.K.Stored.storable book (kept book);
+      readable = reads_back g.K.Kind.means s g.met.K.Stored.storable (tally_of book) (valid book);
     }
 
 pub returns-then-out-needed : goal.returns-then-out-needed
 returns-then-out-needed g c =
     record {
       told = search rules;
-      readable = readable g.K.Kind.means g.K.Stored.stored g.met.K.Stored.storable c.args.self.now (kept c.args.self.now);
+      readable = reads_back g.K.Kind.means g.K.Stored.stored g.met.K.Stored.storable (tally_of c.args.self.now) (valid c.args.self.now);
     }
