@@ -20,6 +20,7 @@ use Rattle.book.specs.Losses.{value, loss, told, corners, Fitting}
 use Rattle.book.specs.Prices.{CoversBoth, Exact, Least, centavos}
 use Rattle.book.specs.Markets.{variation_of, price_unit, value_unit}
 use Rattle.book.specs.Theorems.{CircularMinimum, CircularRequired, CircularReplies}
+use Rattle.book.proofs.MarginAnswers.{least_once}
 use Rattle.book.proofs.BookLosses.{loss_everywhere}
 use Rattle.book.proofs.CornerFormula.{all_unmap, each}
 use Rattle.book.proofs.Integers.{neg_times}
@@ -184,14 +185,10 @@ circular_covers_both laws v u unit value_unit ps n table fit =
     let e = required_exact laws v u unit ps fit value_unit n table in
     (e, exact_least (loss listed v unit ps) (scenario_losses value_unit ps n table) (circular_required (circular_minimum unit (protected_portfolio v ps)) (scenario_values value_unit ps n table)) e)
 
--- there is one least number
-one_least : (P : ℕ → Type 0) (m n : ℕ) → Least P m → Least P n → m ≡ n
-one_least P m n a b = let h = a.least n b.holds in let k = b.least m a.holds in omega arith
-
 pub circular_replies : Lawful listed → CircularReplies
 circular_replies laws t k =
     let m = t.market in
     let v = variation_of m in (
-      λ n at r. one_least _ n _ r.covers (circular_covers laws v m.ceiling (price_unit m) t.positions k.fitting).1,
-      λ scenarios table n r. one_least _ n _ r (circular_covers_both laws v m.ceiling (price_unit m) (value_unit m) t.positions scenarios table k.fitting).1,
+      λ n at r. least_once _ n _ r.covers (circular_covers laws v m.ceiling (price_unit m) t.positions k.fitting).1,
+      λ scenarios table n r. least_once _ n _ r (circular_covers_both laws v m.ceiling (price_unit m) (value_unit m) t.positions scenarios table k.fitting).1,
     )

@@ -26,7 +26,7 @@ margin_none f p w h = record {
   named = λ x. let k = w.greatest x in omega (arith, ints);
 }
 
-least_once : (P : ℕ → Type 0) (m n : ℕ) → Least P m → Least P n → m ≡ n
+pub least_once : (P : ℕ → Type 0) (m n : ℕ) → Least P m → Least P n → m ≡ n
 least_once P m n a b = let h = a.least n b.holds in let k = b.least m a.holds in omega arith
 
 worst_once : (f : ℕ → ℤ) (p q : ℕ) → Worst f p → Worst f q → p ≡ q

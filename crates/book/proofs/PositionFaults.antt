@@ -14,7 +14,6 @@ use Rattle.book.specs.declared.position.Position.{Position}
 use Rattle.book.specs.Losses.{gross}
 use Rattle.book.specs.Markets.{outside}
 use Rattle.book.specs.SheetReading.{past, malformed, named_in, named_among, position_told, positions_told, when, contract_fault, own_fault, above_fault, position_fault, positions_fault}
-use Rattle.book.proofs.TradedLists.{gross_append}
 use Rattle.book.proofs.SheetFaults.{or_both, when_not}
 use Rattle.book.proofs.ReadingLines.{passes, stops}
 
@@ -85,9 +84,6 @@ told_most s (suc n) bs =
       | None ↦ omega arith
       | Some p ↦ omega arith
     ]
-
-pub gross_more : {C : Type 0} (ps : List (Position C)) (p : Position C) → gross (ps ++ p ∷ []) ≡ gross ps + nat_abs p.net
-gross_more ps p = omega (arith, gross_append ps (p ∷ []))
 
 pub contracts_more : {C : Type 0} (ps : List (Position C)) (p : Position C) → map (λ q. q.contract) (ps ++ p ∷ []) ≡ map (λ q. q.contract) ps ++ p.contract ∷ []
 contracts_more [] p = refl

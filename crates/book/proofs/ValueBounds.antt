@@ -51,7 +51,7 @@ module _ {C : Type 0} where
   pub net_small : (ps : List (Position C)) (i : ℕ) (p : Position C) → i < length ps → p ≡ get_or ps i p → gross ps ≤ 10000 → nat_abs p.net ≤ 10000
   net_small ps i p l e few = omega (arith, net_most i ps p l, ap (λ (o : Position C). nat_abs o.net) e)
 
-  gross_push : (ps : List (Position C)) (p : Position C) → gross (ps ++ (p ∷ [])) ≡ gross ps + nat_abs p.net
+  pub gross_push : (ps : List (Position C)) (p : Position C) → gross (ps ++ (p ∷ [])) ≡ gross ps + nat_abs p.net
   gross_push [] p = omega arith
   gross_push (q ∷ ps) p = omega (arith, gross_push ps p)
 

@@ -7,9 +7,9 @@ use Rattle.sheet.specs.Cuts.{after}
 use Rattle.book.specs.Losses.{gross}
 use Rattle.book.specs.SheetReading.{unread, past, after_lines, position_told, positions_told, positions_fault, own_fault, named_in, named_among, Checked}
 use Rattle.book.proofs.ReadingLines.{handed_on, after_more, told_more}
-use Rattle.book.proofs.PositionFaults.{among_in, line_stops, own_stops, above_stops, position_passes, own_most, too_many, not_too_many, told_most, gross_more, contracts_more}
+use Rattle.book.proofs.PositionFaults.{among_in, line_stops, own_stops, above_stops, position_passes, own_most, too_many, not_too_many, told_most, contracts_more}
 use Rattle.book.proofs.SheetHeads.{end_told}
-use Rattle.book.proofs.ValueBounds.{same_net}
+use Rattle.book.proofs.ValueBounds.{same_net, gross_push}
 use Rattle.book.proofs.check_sheet.check_positions.Goals as goal
 
 pub returns-in_err-position : goal.returns-in_err-position
@@ -138,7 +138,7 @@ loop-preserved g c =
       t.same ∙ c.loop.invariant.0,
       on,
       here ∙ pass ∙ then,
-      omega (arith, c.loop.invariant.3, size, gross_more above p, ap gross more),
+      omega (arith, c.loop.invariant.3, size, gross_push above p, ap gross more),
       omega (arith, c.if-contracts-gt10000.false),
       c.push_reserved.ensures.items ∙ ap (λ cs. cs ++ p.contract ∷ []) seen ∙ sym (contracts_more above p) ∙ ap (map (λ q. q.contract)) (sym more),
       c.push_reserved.ensures.capacity ∙ c.loop.invariant.6,
