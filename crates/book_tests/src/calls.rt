@@ -15,12 +15,14 @@ fn refused_opening(rt: &HostRuntime, places: usize, market: Market) -> Result<u3
 
 #[test]
 fn opening(rt: HostRuntime) -> Result<(), Fail> {
-    let cases: [(usize, (u32, u32, u32, u32, u32), u32); 17] = [
+    let cases: [(usize, (u32, u32, u32, u32, u32), u32); 18] = [
         (1, (1, 1, 0, 1, 1), 0),
         (128, (20_000_000, 20_000_000, 10_000, 1, 1), 0),
         (128, (50_000, 50_000, 300, 1_000, 99_999), 0),
         (0, (1, 1, 0, 1, 1), 3),
         (129, (1, 1, 0, 1, 1), 3),
+        // room is reserved for 128 places at most, whatever the count
+        (18_446_744_073_709_551_615, (1, 1, 0, 1, 1), 3),
         (1, (0, 1, 0, 1, 1), 1),
         (1, (20_000_001, 1, 0, 1, 1), 1),
         (1, (5, 0, 0, 1, 1), 1),
