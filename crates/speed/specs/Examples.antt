@@ -2,7 +2,12 @@
 use Rattle.std.specs.Prelude.{ℕ, zero, suc, ◌+◌, ◌-◌, ◌*◌, ◌%◌, cond, List, [], ◌∷◌, ◌++◌, ℤ, pos, negsuc, ◌==◌, nat_lt}
 use Rattle.kinds.specs.declared.listed.Listed.{Listed}
 use Rattle.kinds.specs.declared.side.Side.TheVariants.{Call, Put}
+use Rattle.book.specs.declared.market.Market.{Market}
 use Rattle.book.specs.declared.position.Position.{Position}
+
+-- Reference 2,564.50, factor 3 %, size 50, rate one to one, under the ceiling 10,000.00.
+abbrev pub market : Market
+market = record { ceiling = 1000000; reference = 256450; factor = 300; size = 50; rate = 10000 }
 
 -- Calls from 260,000 up and puts from 250,000 down, in turn.
 abbrev pub option_at : ℕ → Listed

@@ -2,7 +2,7 @@
 ghost use Rattle.std.specs.Prelude.{◌≡◌, ◌<◌, ◌≤◌, true, IfOk};
 ghost use Rattle.kinds.specs.ListedOptions.{listed};
 ghost use Rattle.book.specs.Tallies.{tally_of};
-ghost use Rattle.speed.specs.Examples.{option_at, quantity_at, example};
+ghost use Rattle.speed.specs.Examples.{market, option_at, quantity_at, example};
 
 use book::{Book, Market, Places, Refusal};
 use kinds::{Listed, Side};
@@ -46,7 +46,7 @@ fn quantity(i: usize) -> i32
 // A book with so many positions.
 pub(crate) fn opened(places: Places<Listed>, positions: usize) -> Result<Book<Listed>, Refusal>
     requires { positions ≤ 128 }
-    ensures { IfOk result (λ b. (tally_of b).positions ≡ example positions) }
+    ensures { IfOk result (λ b. ((tally_of b).positions ≡ example positions) × ((tally_of b).market ≡ market)) }
 {
     let mut book = match Book::open(places, MARKET) {
         Ok(book) => book,

@@ -15,5 +15,5 @@ loop-i-preserved c =
     let q : quantity ≡ quantity_at i = search rules in
     let traded_now : (tally_of c.trade.new.self).positions ≡ traded listed c.option.result quantity old.positions = ap (λ t. t.positions) done.1 in
     let same : traded listed c.option.result quantity old.positions ≡ traded listed (option_at i) (quantity_at i) (example i) =
-    ap (λ o. traded listed o quantity old.positions) c.option.ensures.is ∙ ap (λ z. traded listed (option_at i) z old.positions) q ∙ ap (λ ps. traded listed (option_at i) (quantity_at i) ps) c.loop-i.invariant in
-    traded_now ∙ same ∙ next i (omega arith)
+    ap (λ o. traded listed o quantity old.positions) c.option.ensures.is ∙ ap (λ z. traded listed (option_at i) z old.positions) q ∙ ap (λ ps. traded listed (option_at i) (quantity_at i) ps) c.loop-i.invariant.0 in
+    (traded_now ∙ same ∙ next i (omega arith), ap (λ t. t.market) done.1 ∙ c.loop-i.invariant.1)
