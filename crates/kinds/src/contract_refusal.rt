@@ -9,6 +9,7 @@ pub enum ContractRefusal {
 }
 
 impl ContractRefusal {
+    // A method, as of every refusal: `u32::from(refusal)` would not say that it gives the number of the cause.
     pub fn number(self) -> u32
         ensures { result ≡ contract_refusal_number self }
     {

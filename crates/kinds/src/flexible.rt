@@ -3,13 +3,14 @@ ghost use Rattle.std.specs.Prelude.{◌≡◌, ℕ, min, [], ◌∷◌};
 ghost use Rattle.kinds.specs.Kinds.{WhereFits};
 ghost use Rattle.kinds.specs.CornerPrices.{prices};
 ghost use Rattle.kinds.specs.Sides.{pays};
-ghost use Rattle.kinds.specs.FlexibleOptions.{flexible, flexible_made, limited, strike_and_limiter, moved_within, limiter_right, limiter_same};
+ghost use Rattle.kinds.specs.FlexibleOptions.{flexible, flexible_made, limited, strike_and_limiter, moved_within, limiter_right};
 ghost use Rattle.kinds.specs.FlexibleRules.{flexible_lawful};
 
 use crate::contract_refusal::ContractRefusal;
 use crate::corners::Corners;
 use crate::kind::Kind;
 use crate::side::Side;
+use crate::strike::is_strike;
 
 // A plain record: its numbers may be out of range, and then it fits nothing.
 #[derive(Clone, Copy, PartialEq, Eq, Debug)]
@@ -23,7 +24,7 @@ impl Flexible {
     pub fn new(side: Side, strike: u32, limiter: Option<u32>) -> Result<Flexible, ContractRefusal>
         ensures { result ≡ flexible_made side strike limiter }
     {
-        if strike < 1 || strike > 20_000_000 {
+        if !is_strike(strike) {
             return Err(ContractRefusal::Strike);
         }
         let contract = Flexible {
@@ -72,6 +73,7 @@ impl Kind for Flexible {
         self.side.payment(self.strike, self.limited(price))
     }
 
+    // Not a provided method of `Kind`: that could promise only where a contract fits, and this holds at every price.
     fn payment_under(&self, variation: u32, price: u32) -> u32
         ensures told { WhereFits flexible self.now variation price (result ≡ flexible.payment_under self.now variation price) }
         ensures exact { result ≡ min (pays self.now.side self.now.strike (limited self.now.side self.now.limiter price)) variation }
@@ -101,15 +103,15 @@ impl Kind for Flexible {
 
     fn fits(&self, variation: u32, ceiling: u32) -> bool {
         let within = match (self.side, self.limiter) {
-            (Side::Call, None) => self.strike <= ceiling && variation <= ceiling - self.strike,
+            (side, None) => side.fits(self.strike, variation, ceiling),
             (Side::Call, Some(limiter)) => limiter <= ceiling,
-            (Side::Put, None) => variation <= self.strike && self.strike <= ceiling,
             (Side::Put, Some(_)) => self.strike <= ceiling,
         };
-        1 <= self.strike && self.strike <= 20_000_000 && self.has_limiter_in_range() && within
+        is_strike(self.strike) && self.has_limiter_in_range() && within
     }
 
+    // Not a provided method of `Kind`: that would ask `PartialEq` of every kind.
     fn same(&self, other: &Flexible) -> bool {
-        self.side.same(other.side) && self.strike == other.strike && self.limiter == other.limiter
+        self == other
     }
 }

@@ -7,6 +7,7 @@ mod flexible;
 mod kind;
 mod listed;
 mod side;
+mod strike;
 
 pub use contract_refusal::ContractRefusal;
 pub use corners::Corners;

@@ -10,6 +10,7 @@ use crate::contract_refusal::ContractRefusal;
 use crate::corners::Corners;
 use crate::kind::Kind;
 use crate::side::Side;
+use crate::strike::is_strike;
 
 // A plain record: its strike may be out of range, and then it fits nothing.
 #[derive(Clone, Copy, PartialEq, Eq, Debug)]
@@ -22,7 +23,7 @@ impl Listed {
     pub fn new(side: Side, strike: u32) -> Result<Listed, ContractRefusal>
         ensures { result ≡ listed_made side strike }
     {
-        if strike < 1 || strike > 20_000_000 {
+        if !is_strike(strike) {
             return Err(ContractRefusal::Strike);
         }
         Ok(Listed { side, strike })
@@ -41,6 +42,7 @@ impl Kind for Listed {
         self.side.payment(self.strike, price)
     }
 
+    // Not a provided method of `Kind`: that could promise only where a contract fits, and this holds at every price.
     fn payment_under(&self, variation: u32, price: u32) -> u32
         ensures told { WhereFits listed self.now variation price (result ≡ listed.payment_under self.now variation price) }
         ensures exact { result ≡ min (pays self.now.side self.now.strike price) variation }
@@ -63,14 +65,11 @@ impl Kind for Listed {
     }
 
     fn fits(&self, variation: u32, ceiling: u32) -> bool {
-        let within = match self.side {
-            Side::Call => self.strike <= ceiling && variation <= ceiling - self.strike,
-            Side::Put => variation <= self.strike && self.strike <= ceiling,
-        };
-        1 <= self.strike && self.strike <= 20_000_000 && within
+        is_strike(self.strike) && self.side.fits(self.strike, variation, ceiling)
     }
 
+    // Not a provided method of `Kind`: that would ask `PartialEq` of every kind.
     fn same(&self, other: &Listed) -> bool {
-        self.side.same(other.side) && self.strike == other.strike
+        self == other
     }
 }

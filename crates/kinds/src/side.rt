@@ -1,6 +1,6 @@
 // Calls and puts: what the two sides of an option have in common in every kind.
 ghost use Rattle.std.specs.Prelude.{◌≡◌, min};
-ghost use Rattle.kinds.specs.Sides.{pays, moved, side_same};
+ghost use Rattle.kinds.specs.Sides.{pays, moved, side_fits};
 
 #[derive(Clone, Copy, PartialEq, Eq, Debug)]
 pub enum Side {
@@ -8,6 +8,7 @@ pub enum Side {
     Put,
 }
 
+// Strikes are passed beside the side: a contract's record holds both, and its strike may be out of range.
 impl Side {
     // What an option without limiter pays: a call price less strike, a put strike less price, never below zero.
     pub fn payment(self, strike: u32, price: u32) -> u32
@@ -29,9 +30,13 @@ impl Side {
         }
     }
 
-    pub fn same(self, other: Side) -> bool
-        ensures { result ≡ side_same self other }
+    // Whether an option without limiter fits a variation and a ceiling: its strike, and where it stops losing under the variation, lie from 0 to the ceiling.
+    pub(crate) fn fits(self, strike: u32, variation: u32, ceiling: u32) -> bool
+        ensures { result ≡ side_fits self strike variation ceiling }
     {
-        self == other
+        match self {
+            Side::Call => strike <= ceiling && variation <= ceiling - strike,
+            Side::Put => variation <= strike && strike <= ceiling,
+        }
     }
 }
