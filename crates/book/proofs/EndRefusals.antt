@@ -19,11 +19,6 @@ module _ {C : Type 0} (t : Tally C) (after : List (Position C)) where
       ap (λ b. cond b (Some Contracts) (cond (ltb t.places (length after)) (Some AllPlacesTaken) None)) (le-ltb 10000 (gross after) h)
       ∙ ap (λ b. cond b (Some AllPlacesTaken) None) (lt-ltb t.places (length after) k)
 
-  pub ends_well : gross after ≤ 10000 → length after ≤ t.places → ends_refusal t after ≡ None
-  ends_well h k =
-      ap (λ b. cond b (Some Contracts) (cond (ltb t.places (length after)) (Some AllPlacesTaken) None)) (le-ltb 10000 (gross after) h)
-      ∙ ap (λ b. cond b (Some AllPlacesTaken) None) (le-ltb t.places (length after) k)
-
 -- A trade whose quantity is right and whose contract fits ends as its positions do.
 pub ended : {C : Type 0} (K : Meaning C) (t : Tally C) (c : C) (q : ℤ) (after : List (Position C)) (new : Tally C) (r : Result (Unit {0}) Refusal) → outside (nat_abs q) 1 10000 ≡ false → K.fits c (variation_of t.market) t.market.ceiling ≡ true → traded K c q t.positions ≡ after → Told (ends_refusal t after) t (holding t after) new r → Told (trade_refusal K t c q) t (holding t (traded K c q t.positions)) new r
 ended K t c q after new r small fits e h =

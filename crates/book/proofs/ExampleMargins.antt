@@ -70,7 +70,7 @@ module _ {C : Type 0} (K : Meaning C) where
   tested m (Some t) n at = each (λ (p : Position C). K.fits p.contract (variation_of m) m.ceiling) t.positions && answers (loss K (variation_of m) (price_unit m) t.positions) (corners K (variation_of m) t.positions) n at
 
   tested_true : Lawful K → (m : Market) (o : Option (Tally C)) (n : ℕ) (at : Option ℕ) → tested m o n at ≡ true → MatchOption o ⊥ (λ t. Margin (loss K (variation_of m) (price_unit m) t.positions) n at)
-  tested_true laws m None n at h = let z : ◌≡◌ {A = ℕ} 0 1 = cc in omega arith
+  tested_true laws m None n at h = cc
   tested_true laws m (Some t) n at h =
       let fits : Position C → Bool = λ p. K.fits p.contract (variation_of m) m.ceiling in
       let a = and_parts (each fits t.positions) (answers (loss K (variation_of m) (price_unit m) t.positions) (corners K (variation_of m) t.positions) n at) h in

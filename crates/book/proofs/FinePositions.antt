@@ -12,8 +12,8 @@ use Rattle.sheet.specs.StoredKinds.{Storing, Storable}
 use Rattle.book.specs.declared.market.Market.{Market}
 use Rattle.book.specs.declared.position.Position.{Position}
 use Rattle.book.specs.Losses.{gross, all_held, Fitting, Distinct}
-use Rattle.book.specs.Markets.{outside, variation_of}
-use Rattle.book.specs.SheetReading.{or_fault, when, named_in, contract_fault, own_fault, above_fault, position_fault}
+use Rattle.book.specs.Markets.{variation_of}
+use Rattle.book.specs.SheetReading.{or_fault, named, contracts_of, contract_fault, position_fault}
 use Rattle.book.specs.Tallies.{Kept}
 use Rattle.book.proofs.SheetFaults.{or_both, when_not, not_when, inside}
 use Rattle.book.proofs.TradedLists.{gross_append}
@@ -26,18 +26,18 @@ module _ {C : Type 0} (K : Meaning C) (s : Storing C) (m : Market) where
     pub most : nat_abs p.net ≤ 10000
     pub fits : K.fits p.contract (variation_of m) m.ceiling ≡ true
     pub few : gross above + nat_abs p.net ≤ 10000
-    pub new : named_in K p.contract above ≡ false
+    pub new : named K p.contract (contracts_of above) ≡ false
 
   refused_none : (line : ℕ) (o : Option ContractRefusal) → contract_fault line o ≡ None → o ≡ None
   refused_none line None h = refl
-  refused_none line (Some e) h = absurd (let z : ◌≡◌ {A = ℕ} 0 1 = cc in omega arith)
+  refused_none line (Some e) h = cc
 
   pub fine_from : (line : ℕ) (above : List (Position C)) (p : Position C) → position_fault K s m line above (Some p) ≡ None → Fine above p
   fine_from line above p h =
-      let o = or_both (own_fault K s m line p) (above_fault K line above p) h in
-      let a = or_both (contract_fault line (s.refusal p.contract)) _ o.0 in
-      let b = or_both (when (outside (nat_abs p.net) 1 10000) (fault.Line line line_cause.Quantity)) _ a.1 in
-      let d = or_both (when (ltb 10000 (gross above + nat_abs p.net)) (fault.Book line book_cause.Contracts)) _ o.1 in
+      let o = or_both _ _ h in
+      let a = or_both _ _ o.0 in
+      let b = or_both _ _ a.1 in
+      let d = or_both _ _ o.1 in
       let q = or_parts (ltb (nat_abs p.net) 1) (ltb 10000 (nat_abs p.net)) (when_not _ _ b.0) in
       record {
         right = refused_none line (s.refusal p.contract) a.0;
@@ -77,10 +77,10 @@ module _ {C : Type 0} (K : Meaning C) (s : Storing C) (m : Market) where
       let n = f.0.few in
       omega (arith, e, fine_gross (above ++ (p ∷ [])) ps (omega (arith, e, n)) f.1)
 
-  distinct_push : (above : List (Position C)) (p : Position C) → Distinct K above → named_in K p.contract above ≡ false → Distinct K (above ++ (p ∷ []))
+  distinct_push : (above : List (Position C)) (p : Position C) → Distinct K above → named K p.contract (contracts_of above) ≡ false → Distinct K (above ++ (p ∷ []))
   distinct_push [] p d h = (tt, tt)
   distinct_push (a ∷ above) p d h =
-      let b = or_parts (K.same a.contract p.contract) (named_in K p.contract above) h in
+      let b = or_parts (K.same a.contract p.contract) (named K p.contract (contracts_of above)) h in
       (All-push (λ q. K.same a.contract q.contract ≡ false) above p d.0 b.0, distinct_push above p d.1 b.1)
 
   pub fine_distinct : (above ps : List (Position C)) → Distinct K above → AllFine above ps → Distinct K (above ++ ps)
@@ -88,9 +88,8 @@ module _ {C : Type 0} (K : Meaning C) (s : Storing C) (m : Market) where
   fine_distinct above (p ∷ ps) d f = subst (Distinct K) (append_assoc above (p ∷ []) ps) (fine_distinct (above ++ (p ∷ [])) ps (distinct_push above p d f.0.new) f.1)
 
   -- A position without a fault may stand after those above it.
-  pub fine_push : (line places : ℕ) (above : List (Position C)) (p : Position C) → own_fault K s m line p ≡ None → above_fault K line above p ≡ None → Kept K (record { places = places; market = m; positions = above }) → Kept K (record { places = places; market = m; positions = above ++ (p ∷ []) })
-  fine_push line places above p own over k =
-      let f = fine_from line above p (ap₂ or_fault own over) in
+  pub fine_push : (places : ℕ) (above : List (Position C)) (p : Position C) → Fine above p → Kept K (record { places = places; market = m; positions = above }) → Kept K (record { places = places; market = m; positions = above ++ (p ∷ []) })
+  fine_push places above p f k =
       record { fitting = All-push _ above p k.fitting f.fits; distinct = distinct_push above p k.distinct f.new }
 
   -- And back, from the rules that a book keeps.
@@ -98,9 +97,9 @@ module _ {C : Type 0} (K : Meaning C) (s : Storing C) (m : Market) where
   all_there P [] ys y h = h.0
   all_there P (x ∷ xs) ys y h = all_there P xs ys y h.1
 
-  not_named : (above ps : List (Position C)) (p : Position C) → Distinct K (above ++ (p ∷ ps)) → named_in K p.contract above ≡ false
+  not_named : (above ps : List (Position C)) (p : Position C) → Distinct K (above ++ (p ∷ ps)) → named K p.contract (contracts_of above) ≡ false
   not_named [] ps p d = refl
-  not_named (a ∷ above) ps p d = or_from (K.same a.contract p.contract) (named_in K p.contract above) (all_there (λ q. K.same a.contract q.contract ≡ false) above ps p d.0) (not_named above ps p d.1)
+  not_named (a ∷ above) ps p d = or_from (K.same a.contract p.contract) (named K p.contract (contracts_of above)) (all_there (λ q. K.same a.contract q.contract ≡ false) above ps p d.0) (not_named above ps p d.1)
 
   pub all_fine : Storable K s → (above ps : List (Position C)) → Fitting K (variation_of m) m.ceiling ps → all_held ps ≡ true → gross above + gross ps ≤ 10000 → Distinct K (above ++ ps) → AllFine above ps
   all_fine laws above [] fits held few d = tt

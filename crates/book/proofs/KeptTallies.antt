@@ -1,8 +1,9 @@
 -- What trades and market changes keep, and that trades add up.
-use Rattle.std.proofs.Common.{◌≡◌, ℕ, zero, suc, Bool, true, false, cond, List, [], ◌∷◌, ℤ, pos, negsuc, ◌+ℤ◌, Some, None, Option, sym, refl, ap, arith}
+use Rattle.std.proofs.Common.{◌≡◌, ℕ, zero, suc, Bool, true, false, cond, not, List, [], ◌∷◌, ℤ, pos, negsuc, ◌+ℤ◌, Some, None, Option, sym, refl, ap, arith}
 use borrow.Author.Differences.{ints}
 use Rattle.std.specs.List.{AllByRecursion}
 use Rattle.std.specs.Option.{option_map}
+use Rattle.std.proofs.ByRecursion.{All-weaker}
 use Rattle.std.proofs.lemmas.Bool.{not-false}
 use Rattle.kinds.specs.Kinds.{Meaning, Lawful}
 use Rattle.book.specs.declared.position.Position.{Position}
@@ -12,10 +13,11 @@ use Rattle.book.specs.Markets.{market_refusal, variation_of}
 use Rattle.book.specs.Tallies.{Tally, Kept, or_else, holding, first_unfit}
 use Rattle.book.specs.Theorems.{TradesKeep, ChangesKeep, TradesAddUp}
 use Rattle.book.specs.Trades.{put, traded, net_in}
+use Rattle.book.proofs.FoundPlaces.{none_passes}
 use Rattle.book.proofs.TradeEffects.{traded_fitting}
 
 past : {X : Type 0} (b : Bool) (x : X) (o : Option X) → cond b (Some x) o ≡ None → (b ≡ false) × (o ≡ None)
-past true x o h = absurd (let z : ◌≡◌ {A = ℕ} 0 1 = cc in omega arith)
+past true x o h = cc
 past false x o h = (refl, h)
 
 same_bool : (a b : Bool) → (a ≡ true → b ≡ true) → (b ≡ true → a ≡ true) → a ≡ b
@@ -65,19 +67,15 @@ module _ {C : Type 0} (K : Meaning C) where
 
   none_mapped : {X Y : Type 0} (f : X → Y) (o : Option X) → option_map f o ≡ None → o ≡ None
   none_mapped f None h = refl
-  none_mapped f (Some x) h = absurd (let z : ◌≡◌ {A = ℕ} 0 1 = cc in omega arith)
-
-  fits_past : (b : Bool) (o : Option ℕ) → cond b (option_map suc o) (Some 0) ≡ None → (b ≡ true) × (o ≡ None)
-  fits_past true o h = (refl, none_mapped suc o h)
-  fits_past false o h = absurd (let z : ◌≡◌ {A = ℕ} 0 1 = cc in omega arith)
+  none_mapped f (Some x) h = cc
 
   pub all_fit : (v u : ℕ) (ps : List (Position C)) → first_unfit K v u ps ≡ None → Fitting K v u ps
-  all_fit v u [] h = tt
-  all_fit v u (p ∷ ps) h = let b = fits_past (K.fits p.contract v u) (first_unfit K v u ps) h in (b.0, all_fit v u ps b.1)
+  all_fit v u ps h =
+      All-weaker _ _ (λ p n. not-false (K.fits p.contract v u) n) ps (none_passes (λ p. not (K.fits p.contract v u)) ps h)
 
   or_past : (a b : Option Refusal) → or_else a b ≡ None → b ≡ None
   or_past None b h = h
-  or_past (Some e) b h = absurd (let z : ◌≡◌ {A = ℕ} 0 1 = cc in omega arith)
+  or_past (Some e) b h = cc
 
   pub changes_keep : ChangesKeep K
   changes_keep t m k h =

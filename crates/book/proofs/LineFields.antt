@@ -94,7 +94,7 @@ same_plain : (w f : List ℕ) → plain w ≡ true → bytes_eq f w ≡ true →
 same_plain w f p h = subst Plain (sym ((bytes_eq-Decides f w).0 h)) (plain_from w p)
 
 pub some_of : {X : Type 0} (o : Option X) → is_some o ≡ true → (x : X) × (o ≡ Some x)
-some_of None h = absurd (let z : ◌≡◌ {A = ℕ} 0 1 = cc in omega arith)
+some_of None h = cc
 some_of (Some x) h = (x, refl)
 
 number_plain : (f : List ℕ) → is_some (number_of 8 f) ≡ true → Plain f
@@ -124,8 +124,8 @@ form_plain Limiter f h = ⊎_elim (same_plain (45 ∷ []) f refl) (number_plain 
 
 forms_plain : (ps : List Form) (fs : List (List ℕ)) → of_forms ps fs ≡ true → AllByRecursion Plain fs
 forms_plain [] [] h = tt
-forms_plain [] (f ∷ fs) h = absurd (let z : ◌≡◌ {A = ℕ} 0 1 = cc in omega arith)
-forms_plain (p ∷ ps) [] h = absurd (let z : ◌≡◌ {A = ℕ} 0 1 = cc in omega arith)
+forms_plain [] (f ∷ fs) h = cc
+forms_plain (p ∷ ps) [] h = cc
 forms_plain (p ∷ ps) (f ∷ fs) h = let b = and_parts (is_form p f) (of_forms ps fs) h in (form_plain p f b.0, forms_plain ps fs b.1)
 
 -- The bytes begin with a line of these forms and these fields, and the rest comes after it.
@@ -164,7 +164,7 @@ ended_step b bs true e rest h = ap (λ c. c ∷ bs) (sym (eqb-true b 10 e))
 ended_step b bs false e rest h = ap (λ cs. b ∷ cs) (rest h)
 
 ended : (bs : List ℕ) → is_some (after 10 bs) ≡ true → before 10 bs ++ (10 ∷ past (after 10 bs)) ≡ bs
-ended [] h = absurd (let z : ◌≡◌ {A = ℕ} 0 1 = cc in omega arith)
+ended [] h = cc
 ended (b ∷ bs) h = ended_step b bs (eqb b 10) refl (ended bs) h
 
 -- the values of f from 0 on, n of them

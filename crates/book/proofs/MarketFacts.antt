@@ -2,10 +2,11 @@
 use Rattle.std.proofs.Common.{◌≡◌, ℕ, ◌*◌, ◌≤◌, Bool, true, false, cond, ltb, is_some, Some, None, Option, refl, ap, ◌∙◌, mul-le-mul_right, mul_assoc, mul-le-mul, mul_left_comm, arith}
 use Rattle.std.proofs.lemmas.Bool.{or_parts, ltb-false}
 use Rattle.book.specs.declared.market.Market.{Market}
-use Rattle.book.specs.Markets.{outside, market_refusal, IsMarket, Right, variation_of, price_unit}
+use Rattle.book.specs.declared.market_in_force.MarketInForce.{MarketInForce}
+use Rattle.book.specs.Markets.{outside, market_refusal, IsMarket, Right, price_unit}
 
 none_past : {X : Type 0} (b : Bool) (x : X) (o : Option X) → cond b (Some x) o ≡ None → (b ≡ false) × (o ≡ None)
-none_past true x o h = absurd (let z : ◌≡◌ {A = ℕ} 0 1 = cc in omega arith)
+none_past true x o h = cc
 none_past false x o h = (refl, h)
 
 within : (n low high : ℕ) → outside n low high ≡ false → (low ≤ n) × (n ≤ high)
@@ -15,7 +16,7 @@ within n low high h =
 
 pub none_from : {X : Type 0} (o : Option X) → is_some o ≡ false → o ≡ None
 none_from None h = refl
-none_from (Some x) h = absurd (let z : ◌≡◌ {A = ℕ} 0 1 = cc in omega arith)
+none_from (Some x) h = cc
 
 pub right : (m : Market) → IsMarket m → Right m
 right m h =
@@ -43,13 +44,9 @@ right m h =
       product_low = ltb-false 5000000000000 (m.ceiling * m.size * m.rate) f.0;
     }
 
-pub variation_low : (m : Market) → Right m → variation_of m ≤ 20000000
-variation_low m r =
-    let k : m.reference ≤ 20000000 = omega (arith, r.reference_low, r.ceiling_low) in
-    omega (arith, mul-le-mul k r.factor_low)
-
-pub unit_low : (m : Market) → Right m → m.size * m.rate ≤ 1000 * 99999
-unit_low m r = mul-le-mul r.size_low r.rate_low
+-- a market in force has its ceiling in range
+pub ceiling_low : (m : MarketInForce) → m.numbers.ceiling ≤ 20000000
+ceiling_low m = (right m.numbers m.right).ceiling_low
 
 pub unit_some : (m : Market) → Right m → 1 * 1 ≤ m.size * m.rate
 unit_some m r = mul-le-mul r.size_some r.rate_some

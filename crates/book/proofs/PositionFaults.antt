@@ -1,80 +1,19 @@
--- Position lines one after another: one without a fault leaves the answer to those below it.
-use Rattle.std.proofs.Common.{◌≡◌, ℕ, zero, suc, ◌+◌, ◌<◌, ◌≤◌, Bool, false, ◌||◌, ltb, List, [], ◌∷◌, ◌++◌, map, length, nat_abs, Some, None, sym, refl, ap, ◌∙◌, arith}
+-- Position lines one after another: one without a fault leaves the answer to those below it, and then to the end of the sheet.
+use Rattle.std.proofs.Common.{◌≡◌, ℕ, zero, suc, ◌+◌, ◌-◌, ◌<◌, ◌≤◌, Bool, true, false, cond, not, eqb, List, [], ◌∷◌, ◌++◌, length, drop, Some, None, Ok, Err, Option, Result, sym, refl, ap, ◌∙◌, subst, ap₂, append_assoc, append-nil, ⊎_elim, arith, length-drop}
 use Rattle.std.specs.Option.{option_to_list}
-use Rattle.std.proofs.lemmas.Bool.{or_parts, ltb-false, lt-ltb, le-ltb}
+use Rattle.std.proofs.lemmas.Bool.{cases_lt, eq-eqb, ne_eqb}
 use Rattle.kinds.specs.Kinds.{Meaning}
 use Rattle.sheet.specs.declared.fault.Fault.{Fault}
 use Rattle.sheet.specs.declared.fault.Fault.TheVariants as fault
-use Rattle.sheet.specs.declared.fault.LineCause.TheVariants as line_cause
-use Rattle.sheet.specs.declared.fault.BookCause.TheVariants as book_cause
+use Rattle.sheet.specs.declared.reader.Reader.{Reader}
 use Rattle.sheet.specs.Cuts.{after}
 use Rattle.sheet.specs.StoredKinds.{Storing, position_forms}
 use Rattle.book.specs.declared.market.Market.{Market}
 use Rattle.book.specs.declared.position.Position.{Position}
 use Rattle.book.specs.Losses.{gross}
-use Rattle.book.specs.Markets.{outside}
-use Rattle.book.specs.SheetReading.{past, malformed, named_in, named_among, position_told, positions_told, when, contract_fault, own_fault, above_fault, position_fault, positions_fault}
-use Rattle.book.proofs.SheetFaults.{or_both, when_not}
-use Rattle.book.proofs.ReadingLines.{passes, stops}
-
-module _ {C : Type 0} (K : Meaning C) where
-  pub among_in : (c : C) (ps : List (Position C)) → named_among K c (map (λ p. p.contract) ps) ≡ named_in K c ps
-  among_in c [] = refl
-  among_in c (p ∷ ps) = ap (λ b. K.same p.contract c || b) (among_in c ps)
-
-  module _ (s : Storing C) (m : Market) (n line : ℕ) (above : List (Position C)) (bs : List ℕ) where
-    pub line_stops : (e : Fault) → malformed line (position_forms s.limiter_form) bs ≡ Some e → positions_fault K s m (suc n) line above bs ≡ Some e
-    line_stops e h = stops _ _ e h
-
-    module _ (p : Position C) (good : malformed line (position_forms s.limiter_form) bs ≡ None) (told : position_told s bs ≡ Some p) where
-      pub own_stops : (e : Fault) → own_fault K s m line p ≡ Some e → positions_fault K s m (suc n) line above bs ≡ Some e
-      own_stops e h = passes _ _ _ good (stops _ _ e (ap (position_fault K s m line above) told ∙ stops _ _ e h))
-
-      pub above_stops : (e : Fault) → own_fault K s m line p ≡ None → above_fault K line above p ≡ Some e → positions_fault K s m (suc n) line above bs ≡ Some e
-      above_stops e o h = passes _ _ _ good (stops _ _ e (ap (position_fault K s m line above) told ∙ passes _ _ _ o h))
-
-      pub position_passes : own_fault K s m line p ≡ None → above_fault K line above p ≡ None → positions_fault K s m (suc n) line above bs ≡ positions_fault K s m n (suc line) (above ++ p ∷ []) (past (after 10 bs))
-      position_passes o a =
-          passes _ _ _ good (passes _ _ _ (ap (position_fault K s m line above) told ∙ passes _ _ _ o a) (ap (λ x. positions_fault K s m n (suc line) (above ++ option_to_list x) (past (after 10 bs))) told))
-
-    -- Where there is no fault, this line has none, nor have those below it.
-    pub record GoodLine (p : Position C) : Type 0 where
-      pub own : own_fault K s m line p ≡ None
-      pub over : above_fault K line above p ≡ None
-      pub below : positions_fault K s m n (suc line) (above ++ p ∷ []) (past (after 10 bs)) ≡ None
-
-    pub good_line : (p : Position C) → position_told s bs ≡ Some p → positions_fault K s m (suc n) line above bs ≡ None → GoodLine p
-    good_line p told h =
-        let x = or_both _ _ (or_both _ _ h).1 in
-        let y = or_both _ _ (sym (ap (position_fault K s m line above) told) ∙ x.0) in
-        record { own = y.0; over = y.1; below = sym (ap (λ o. positions_fault K s m n (suc line) (above ++ option_to_list o) (past (after 10 bs))) told) ∙ x.1 }
-
-    pub well_told : positions_fault K s m (suc n) line above bs ≡ None → malformed line (position_forms s.limiter_form) bs ≡ None
-    well_told h = (or_both _ _ h).0
-
-  -- What the tests say of the quantity.
-  module _ (s : Storing C) (m : Market) (line : ℕ) (p : Position C) (h : own_fault K s m line p ≡ None) where
-    own_size : (ltb (nat_abs p.net) 1 ≡ false) × (ltb 10000 (nat_abs p.net) ≡ false)
-    own_size =
-        let a = or_both (contract_fault line (s.refusal p.contract)) _ h in
-        let b = or_both (when (outside (nat_abs p.net) 1 10000) (fault.Line line line_cause.Quantity)) _ a.1 in
-        or_parts (ltb (nat_abs p.net) 1) (ltb 10000 (nat_abs p.net)) (when_not _ _ b.0)
-
-    pub own_some : 1 ≤ nat_abs p.net
-    own_some = ltb-false (nat_abs p.net) 1 own_size.0
-
-    pub own_most : nat_abs p.net ≤ 10000
-    own_most = ltb-false 10000 (nat_abs p.net) own_size.1
-
-  pub over_few : (line : ℕ) (above : List (Position C)) (p : Position C) → above_fault K line above p ≡ None → gross above + nat_abs p.net ≤ 10000
-  over_few line above p h = ltb-false 10000 (gross above + nat_abs p.net) (when_not _ _ (or_both (when (ltb 10000 (gross above + nat_abs p.net)) (fault.Book line book_cause.Contracts)) _ h).0)
-
-  -- One of the two tests against the positions above holds.
-  pub too_many : (line : ℕ) (above : List (Position C)) (p : Position C) → 10000 < gross above + nat_abs p.net → above_fault K line above p ≡ Some (fault.Book line book_cause.Contracts)
-  too_many line above p h = stops _ _ _ (ap (λ b. when b (fault.Book line book_cause.Contracts)) (lt-ltb _ _ h))
-
-  pub not_too_many : (line : ℕ) (above : List (Position C)) (p : Position C) (b : Bool) → gross above + nat_abs p.net ≤ 10000 → named_in K p.contract above ≡ b → above_fault K line above p ≡ when b (fault.Book line book_cause.NamedTwice)
-  not_too_many line above p b h e = passes _ _ _ (ap (λ t. when t (fault.Book line book_cause.Contracts)) (le-ltb _ _ h)) (ap (λ t. when t (fault.Book line book_cause.NamedTwice)) e)
+use Rattle.book.specs.SheetReading.{contracts_of, joined_fault, past, after_lines, unread, or_fault, malformed, when, position_told, positions_told, position_fault, positions_fault, ReadOn, Checked}
+use Rattle.book.proofs.SheetFaults.{or_both}
+use Rattle.book.proofs.ReadingLines.{passes, stops, after_after, Gone, goes_on, tells_there}
 
 pub told_most : {C : Type 0} (s : Storing C) (n : ℕ) (bs : List ℕ) → length (positions_told s n bs) ≤ n
 told_most s zero bs = omega arith
@@ -85,6 +24,90 @@ told_most s (suc n) bs =
       | Some p ↦ omega arith
     ]
 
-pub contracts_more : {C : Type 0} (ps : List (Position C)) (p : Position C) → map (λ q. q.contract) (ps ++ p ∷ []) ≡ map (λ q. q.contract) ps ++ p.contract ∷ []
-contracts_more [] p = refl
-contracts_more (q ∷ ps) p = ap (λ cs. q.contract ∷ cs) (contracts_more ps p)
+told_more : {C : Type 0} (s : Storing C) (n : ℕ) (bs : List ℕ) → positions_told s (suc n) bs ≡ positions_told s n bs ++ option_to_list (position_told s (after_lines n bs))
+told_more s zero bs = append-nil (option_to_list (position_told s bs))
+told_more s (suc n) bs = ap (λ ps. option_to_list (position_told s bs) ++ ps) (told_more s n (past (after 10 bs))) ∙ sym (append_assoc (option_to_list (position_told s bs)) (positions_told s n (past (after 10 bs))) (option_to_list (position_told s (after_lines (suc n) bs))))
+
+-- A position's test by the count and the contracts of those above it.
+pub same_test : {C : Type 0} (K : Meaning C) (s : Storing C) (m : Market) (above : List (Position C)) (p : Position C) {line l contracts : ℕ} {seen : List C} → line ≡ l → contracts ≡ gross above → seen ≡ contracts_of above → joined_fault K s m line contracts seen p ≡ position_fault K s m l above (Some p)
+same_test K s m above p e n c = λ j. joined_fault K s m (e j) (n j) (c j) p
+
+-- A reader goes over the lines of so many positions from where r0 stands.
+module _ {C : Type 0} (K : Meaning C) (s : Storing C) (m : Market) (count : ℕ) (r0 : Reader) where
+  abbrev pub first_fault : Option Fault
+  first_fault = positions_fault K s m count (r0.lines + 1) [] (unread r0)
+
+  -- The first i positions.
+  abbrev pub above : ℕ → List (Position C)
+  above i = positions_told s i (unread r0)
+
+  -- They were read, and those left decide.
+  abbrev pub Passed : ℕ → Reader → Type 0
+  Passed i r = Gone r0.lines r0 i r first_fault (positions_fault K s m (count - i) (r0.lines + i + 1) (above i) (after_lines i (unread r0)))
+
+  pub none_passed : Passed 0 r0
+  none_passed =
+      let n : count ≡ count - 0 = omega arith in
+      let l : r0.lines + 1 ≡ r0.lines + 0 + 1 = omega arith in
+      record { same = refl; at = refl; lines = omega arith; is = ap₂ (λ k i. positions_fault K s m k i [] (unread r0)) n l }
+
+  pub all_passed : (i : ℕ) (r : Reader) → Passed i r → count ≤ i → first_fault ≡ when (not (eqb (length (unread r)) 0)) (fault.Field (r.lines + 1) 1)
+  all_passed i r g h =
+      let none : count - i ≡ 0 = omega arith in
+      g.is ∙ ap (λ n. positions_fault K s m n (r0.lines + i + 1) (above i) (after_lines i (unread r0))) none
+      ∙ ap₂ (λ l b. when (not (eqb (length b) 0)) (fault.Field (l + 1) 1)) (sym g.lines) (sym g.at)
+
+  -- The tests of the position o in the line after i of them, and those below it.
+  abbrev pub tests : ℕ → Option (Position C) → Option Fault
+  tests i o = or_fault (position_fault K s m (r0.lines + i + 1) (above i) o) (positions_fault K s m (count - (i + 1)) (suc (r0.lines + i + 1)) (above i ++ option_to_list o) (past (after 10 (after_lines i (unread r0)))))
+
+  module _ (i : ℕ) (r : Reader) (h : i < count) (g : Passed i r) where
+    pub next_line : Gone r0.lines r0 i r first_fault (or_fault (malformed (r0.lines + i + 1) (position_forms s.limiter_form) (after_lines i (unread r0))) (tests i (position_told s (after_lines i (unread r0)))))
+    next_line =
+        let n : count - i ≡ suc (count - (i + 1)) = omega arith in
+        record { same = g.same; at = g.at; lines = g.lines; is = g.is ∙ ap (λ k. positions_fault K s m k (r0.lines + i + 1) (above i) (after_lines i (unread r0))) n }
+
+    module _ (r' : Reader) (p : Position C) (t : ReadOn 1 (λ line. malformed line (position_forms s.limiter_form)) (λ bs q. position_told s bs ≡ Some q) r r' (Ok p)) where
+      line_passed : Gone r0.lines r0 (i + 1) r' first_fault (tests i (Some p))
+      line_passed = subst (λ o. Gone r0.lines r0 (i + 1) r' first_fault (tests i o)) (tells_there t g) (goes_on t next_line)
+
+      same_line : position_fault K s m (r.lines + 1) (above i) (Some p) ≡ position_fault K s m (r0.lines + i + 1) (above i) (Some p)
+      same_line = ap (λ l. position_fault K s m (l + 1) (above i) (Some p)) g.lines
+
+      pub more : above (i + 1) ≡ above i ++ p ∷ []
+      more =
+          let e : i + 1 ≡ suc i = omega arith in
+          ap above e ∙ told_more s i (unread r0) ∙ ap (λ o. above i ++ option_to_list o) (tells_there t g)
+
+      -- The position's fault is the first of all; without one it is passed.
+      pub position_stops : (e : Fault) → position_fault K s m (r.lines + 1) (above i) (Some p) ≡ Some e → first_fault ≡ Some e
+      position_stops e f = line_passed.is ∙ stops _ _ e (sym same_line ∙ f)
+
+      pub position_passes : position_fault K s m (r.lines + 1) (above i) (Some p) ≡ None → Passed (i + 1) r'
+      position_passes f =
+          let l : suc (r0.lines + i + 1) ≡ r0.lines + (i + 1) + 1 = omega arith in
+          record {
+            same = line_passed.same;
+            at = line_passed.at;
+            lines = line_passed.lines;
+            is = line_passed.is ∙ passes _ _ (sym same_line ∙ f) ∙ λ j. positions_fault K s m (count - (i + 1)) (l j) (sym more j) (after_after i 1 (unread r0) j);
+          }
+
+      pub position_good : first_fault ≡ None → position_fault K s m (r.lines + 1) (above i) (Some p) ≡ None
+      position_good none = same_line ∙ (or_both _ _ (sym line_passed.is ∙ none)).0
+
+-- The end of the sheet.
+ends : (b : Bool) (f : Fault) → Checked (when (not b) f) (cond b (Ok tt) (Err f))
+ends true f = (refl, tt)
+ends false f = refl
+
+same_end : (at : ℕ) (bs : List ℕ) → at ≤ length bs → eqb at (length bs) ≡ eqb (length (drop at bs)) 0
+same_end at bs h = ⊎_elim
+    (λ l. ne_eqb _ _ (λ e. omega arith) ∙ sym (ne_eqb _ _ (λ e. omega (arith, length-drop at bs))))
+    (λ l. eq-eqb _ _ (omega arith) ∙ sym (eq-eqb _ _ (omega (arith, length-drop at bs))))
+    (cases_lt at (length bs))
+
+pub end_checked : (r : Reader) (x : Result (Unit {0}) Fault) → x ≡ cond (eqb r.at (length r.sheet.now)) (Ok tt) (Err (fault.Field (r.lines + 1) 1)) → Checked (when (not (eqb (length (unread r)) 0)) (fault.Field (r.lines + 1) 1)) x
+end_checked r x e =
+    let f = fault.Field (r.lines + 1) 1 in
+    subst (Checked (when (not (eqb (length (unread r)) 0)) f)) (sym (e ∙ ap (λ b. cond b (Ok tt) (Err f)) (same_end r.at r.sheet.now r.inside.0))) (ends (eqb (length (unread r)) 0) f)

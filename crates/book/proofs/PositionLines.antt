@@ -1,5 +1,5 @@
 -- The fields of a well-formed position line tell a contract and a quantity.
-use Rattle.std.proofs.Common.{◌≡◌, ℕ, Bool, true, false, List, [], ◌∷◌, ◌++◌, map, get_or, is_some, Some, None, Option, sym, refl, ap, ◌∙◌, arith}
+use Rattle.std.proofs.Common.{◌≡◌, ℕ, Bool, true, false, List, [], ◌∷◌, ◌++◌, map, get_or, is_some, Some, None, Option, sym, refl, ap, ◌∙◌}
 use Rattle.std.specs.Option.{option_map, option_to_list}
 use Rattle.std.proofs.lemmas.Bool.{and_parts, and_from}
 use Rattle.sheet.specs.declared.field.Field.{Field}
@@ -25,7 +25,7 @@ pub record ToldFields (form : Option Form) (t : ContractText) (quantity : List �
   pub quantity_formed : is_form Quantity quantity ≡ true
 
 wrong : {A : Type 0} → ◌≡◌ {A = Bool} false true → A
-wrong e = absurd (let z : ◌≡◌ {A = ℕ} 0 1 = cc in omega arith)
+wrong e = cc
 
 told_fields : (form : Option Form) (a b : List ℕ) (l : Option (List ℕ)) (q : List ℕ) → of_forms (position_forms form) (a ∷ b ∷ (option_to_list l ++ q ∷ [])) ≡ true → ToldFields form record { side = a; strike = b; limiter = l } q (a ∷ b ∷ (option_to_list l ++ q ∷ []))
 told_fields None a b None q h =

@@ -1,11 +1,11 @@
 -- Numbers of centavos that cover the losses of scenarios.
-use Rattle.std.proofs.Common.{◌≡◌, ℕ, zero, suc, ◌*◌, ◌≤◌, max, Bool, true, false, cond, ltb, List, [], ◌∷◌, get_or, ℤ, pos, ◌≤ℤ◌, Some, None, Option, refl, arith}
+use Rattle.std.proofs.Common.{◌≡◌, ℕ, zero, suc, ◌*◌, ◌≤◌, max, false, ltb, List, [], ◌∷◌, get_or, ℤ, pos, ◌≤ℤ◌, None, arith}
 use borrow.Author.Differences.{ints}
 use Rattle.std.specs.List.{AllByRecursion}
-use Rattle.std.specs.Option.{option_map}
 use Rattle.std.proofs.lemmas.Bool.{ltb-false}
 use Rattle.book.specs.Prices.{centavos, Covers, CoversBoth, Least}
 use Rattle.book.specs.Scenarios.{greatest, first_above}
+use Rattle.book.proofs.FoundPlaces.{none_passes}
 use Rattle.book.proofs.Rounding.{centavos_cover, centavos_least}
 
 pub record Holds (m : ℕ) (zs : List ℤ) (n : ℕ) : Type 0 where
@@ -40,16 +40,11 @@ both_least f zs m l =
       least = λ k c. let a = l.least k c.0 in let b = greatest_least 0 zs k (omega arith) c.1 in omega arith;
     }
 
-none_mapped : {X Y : Type 0} (f : X → Y) (o : Option X) → option_map f o ≡ None → o ≡ None
-none_mapped f None h = refl
-none_mapped f (Some x) h = absurd (let z : ◌≡◌ {A = ℕ} 0 1 = cc in omega arith)
-
-past : (b : Bool) (o : Option ℕ) → cond b (Some 0) (option_map suc o) ≡ None → (b ≡ false) × (o ≡ None)
-past true o h = absurd (let z : ◌≡◌ {A = ℕ} 0 1 = cc in omega arith)
-past false o h = (refl, none_mapped suc o h)
-
 -- where no value is above the limit, each is at most the limit
+all_low : (limit : ℕ) (xs : List ℕ) → AllByRecursion (λ x. ltb limit x ≡ false) xs → (k : ℕ) → get_or xs k 0 ≤ limit
+all_low limit [] h k = omega arith
+all_low limit (x ∷ xs) h zero = ltb-false limit x h.0
+all_low limit (x ∷ xs) h (suc k) = all_low limit xs h.1 k
+
 pub none_above : (limit : ℕ) (xs : List ℕ) → first_above limit xs ≡ None → (k : ℕ) → get_or xs k 0 ≤ limit
-none_above limit [] h k = omega arith
-none_above limit (x ∷ xs) h zero = ltb-false limit x (past (ltb limit x) (first_above limit xs) h).0
-none_above limit (x ∷ xs) h (suc k) = none_above limit xs (past (ltb limit x) (first_above limit xs) h).1 k
+none_above limit xs h = all_low limit xs (none_passes (ltb limit) xs h)

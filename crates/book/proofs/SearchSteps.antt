@@ -1,11 +1,11 @@
 -- A search that keeps the best price so far.
-use Rattle.std.proofs.Common.{◌≡◌, ℕ, ◌+◌, ◌<◌, ◌≤◌, true, List, [], ◌∷◌, ◌++◌, length, get_or, take, ℤ, pos, negsuc, ◌*ℤ◌, ◌≤ℤ◌, ◌<ℤ◌, sym, refl, ap, ◌∙◌, subst, ⊎_elim, arith}
+use Rattle.std.proofs.Common.{◌≡◌, ℕ, ◌+◌, ◌<◌, List, [], ◌∷◌, ◌++◌, length, get_or, take, ℤ, pos, ◌*ℤ◌, ◌<ℤ◌, sym, ap, ◌∙◌, subst, ⊎_elim, arith}
 use borrow.Author.Differences.{ints}
 use Rattle.std.specs.List.{AllByRecursion}
 use Rattle.std.proofs.ByRecursion.{All-weaker, All-append}
 use Rattle.std.proofs.lemmas.List.{take_more, append-nil, append_assoc}
 use Rattle.book.specs.declared.position.Position.{Position}
-use Rattle.kinds.specs.Kinds.{Meaning, Lawful}
+use Rattle.kinds.specs.Kinds.{Meaning}
 use Rattle.book.specs.Losses.{told, corners, lost}
 use Rattle.kinds.specs.declared.corners.Corners.{Corners}
 use Rattle.kinds.specs.CornerPrices.{prices}
@@ -14,21 +14,11 @@ use Rattle.book.specs.Prices.{Ahead, Leads, Worst}
 use Rattle.book.proofs.Integers.{times_le, times_lt}
 
 module _ (f : ℕ → ℤ) where
-  pub ahead_self : (p : ℕ) → Ahead f p p
-  ahead_self p = record { no_less = omega (arith, ints); first = λ l. absurd (omega arith) }
-
   pub ahead_chain : (p q x : ℕ) → Ahead f q p → Ahead f p x → Ahead f q x
   ahead_chain p q x a b = record {
     no_less = omega (arith, ints);
     first = λ l. ⊎_elim (λ k. let h = b.first k in omega (arith, ints)) (λ k. let h : f p <ℤ f q = a.first (omega arith) in omega (arith, ints)) (cases_lt x p);
   }
-
-  -- the search takes q in place of p: the loss there is greater, or as great at a lower price
-  pub ahead_greater : (p q : ℕ) → f p <ℤ f q → Ahead f q p
-  ahead_greater p q h = record { no_less = omega (arith, ints); first = λ l. h }
-
-  pub ahead_lower : (p q : ℕ) → f p ≡ f q → q ≤ p → Ahead f q p
-  ahead_lower p q e l = record { no_less = omega (arith, ints); first = λ k. absurd (omega arith) }
 
   -- all that p stood ahead of
   pub all_ahead : (p q : ℕ) (xs : List ℕ) → Ahead f q p → AllByRecursion (Ahead f p) xs → AllByRecursion (Ahead f q) xs
@@ -42,18 +32,6 @@ worst_scaled f s p z w = record {
 }
 
 module _ {C : Type 0} (K : Meaning C) (v : ℕ) where
-  pub told_sold : (c : C) (z : ℤ) → z <ℤ pos 0 → told K v c z ≡ K.corners_under c v
-  told_sold c (pos n) h = absurd (omega (arith, ints))
-  told_sold c (negsuc n) h = refl
-
-  pub told_bought : (c : C) (z : ℤ) → pos 0 ≤ℤ z → told K v c z ≡ K.corners c
-  told_bought c (pos n) h = refl
-  told_bought c (negsuc n) h = absurd (omega (arith, ints))
-
-  pub told_low : Lawful K → (u : ℕ) (c : C) (z : ℤ) → K.fits c v u ≡ true → AllByRecursion (λ x. x ≤ u) (told K v c z)
-  told_low laws u c (pos n) f = (laws.few_corners c v u f).0.low
-  told_low laws u c (negsuc n) f = (laws.few_corners c v u f).1.low
-
   corners_push : (ps : List (Position C)) (p : Position C) → corners K v (ps ++ (p ∷ [])) ≡ corners K v ps ++ told K v p.contract p.net
   corners_push [] p = append-nil (told K v p.contract p.net)
   corners_push (q ∷ ps) p = ap (λ cs. told K v q.contract q.net ++ cs) (corners_push ps p) ∙ sym (append_assoc (told K v q.contract q.net) (corners K v ps) (told K v p.contract p.net))

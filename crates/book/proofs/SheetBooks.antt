@@ -1,6 +1,7 @@
 -- The sheets of books: what a book reads and writes, by the laws of sheets.
-use Rattle.std.proofs.Common.{◌≡◌, ℕ, ◌≤◌, cond, List, is_some, Ok, Err, Result, sym, ap, ◌∙◌, subst, arith}
+use Rattle.std.proofs.Common.{ℕ, ◌≤◌, List, Ok, Err, Result, sym, ap, ◌∙◌, subst}
 use Rattle.std.specs.Option.{option_map}
+use Rattle.std.proofs.lemmas.Option.{none-some}
 use Rattle.kinds.specs.Kinds.{Meaning}
 use Rattle.sheet.specs.StoredKinds.{Storing, Storable}
 use Rattle.book.specs.declared.refusal.Refusal.{Refusal}
@@ -17,5 +18,4 @@ module _ {C : Type 0} (K : Meaning C) (s : Storing C) (laws : Storable K s) wher
       (subst (Valid K) (sym h.1) (accepted_valid K s laws old.places bs some most h.0), ap (sheet_of s) h.1 ∙ written_back K s laws old.places bs h.0)
   exactly bs old new (Err e) some most h = λ is.
       let none = (accepts_exactly K s laws old.places bs some most).1 is in
-      let z : ◌≡◌ {A = ℕ} 0 1 = ap (λ o. cond (is_some o) 1 0) (sym (ap (option_map (λ f. Sheet f)) none) ∙ h.0) in
-      absurd (omega arith)
+      absurd (none-some e (sym (ap (option_map (λ f. Sheet f)) none) ∙ h.0))

@@ -31,7 +31,7 @@ number_value n l = digits_value-decimal own n (omega arith)
 
 told_some : {X : Type 0} (b : Bool) (x : X) → is_some (cond b (Some x) None) ≡ true → cond b (Some x) None ≡ Some x
 told_some true x h = refl
-told_some false x h = absurd (let z : ◌≡◌ {A = ℕ} 0 1 = cc in omega arith)
+told_some false x h = cc
 
 number_writes : (f : List ℕ) → is_form Number f ≡ true → decimal (read_on 0 f) ≡ f
 number_writes f h = ((numbers_inverse 8 (omega arith) (omega arith)).read_writes f (read_on 0 f) (told_some (is_number 8 f) (read_on 0 f) h)).1
@@ -90,15 +90,15 @@ position_spaced a b (Some c) q rest = simp append_assoc
 
 position_formed : (form : Option Form) (a b : List ℕ) (l : Option (List ℕ)) (q : List ℕ) → is_form Letter a ≡ true → is_form Number b ≡ true → limiter_formed form l ≡ true → is_form Quantity q ≡ true → of_forms (position_forms form) (a ∷ b ∷ (option_to_list l ++ (q ∷ []))) ≡ true
 position_formed None a b None q x y z w = λ i. x i && (y i && (w i && true))
-position_formed None a b (Some c) q x y z w = absurd (let e : ◌≡◌ {A = ℕ} 0 1 = cc in omega arith)
-position_formed (Some p) a b None q x y z w = absurd (let e : ◌≡◌ {A = ℕ} 0 1 = cc in omega arith)
+position_formed None a b (Some c) q x y z w = cc
+position_formed (Some p) a b None q x y z w = cc
 position_formed (Some p) a b (Some c) q x y z w = λ i. x i && (y i && (z i && (w i && true)))
 
 -- the fields that are cut are those of the contract and the quantity
 text_cut : (form : Option Form) (a b : List ℕ) (l : Option (List ℕ)) (q bs : List ℕ) → limiter_formed form l ≡ true → fields (before 10 bs) ≡ a ∷ b ∷ (option_to_list l ++ (q ∷ [])) → (text_at form bs ≡ record { side = a; strike = b; limiter = l }) × (field_at (quantity_place form) bs ≡ q)
 text_cut None a b None q bs h e = ((λ i. record { side = get_or (e i) 0 []; strike = get_or (e i) 1 []; limiter = None }), ap (λ fs. get_or fs 2 []) e)
-text_cut None a b (Some c) q bs h e = absurd (let z : ◌≡◌ {A = ℕ} 0 1 = cc in omega arith)
-text_cut (Some p) a b None q bs h e = absurd (let z : ◌≡◌ {A = ℕ} 0 1 = cc in omega arith)
+text_cut None a b (Some c) q bs h e = cc
+text_cut (Some p) a b None q bs h e = cc
 text_cut (Some p) a b (Some c) q bs h e = ((λ i. record { side = get_or (e i) 0 []; strike = get_or (e i) 1 []; limiter = Some (get_or (e i) 2 []) }), ap (λ fs. get_or fs 3 []) e)
 
 -- a well-formed line tells a contract's fields and a quantity, and is made of them

@@ -1,5 +1,5 @@
 -- The position lines of a sheet one after another: written ones tell the same positions, and accepted ones are written back.
-use Rattle.std.proofs.Common.{◌≡◌, ℕ, zero, suc, ◌*◌, ◌≤◌, eqb, List, [], ◌∷◌, ◌++◌, map, length, ℤ, pos, negsuc, nat_abs, Some, None, sym, refl, ap, ◌∙◌, subst, ap₂, arith, length-append}
+use Rattle.std.proofs.Common.{◌≡◌, ℕ, zero, suc, ◌*◌, ◌≤◌, eqb, List, [], ◌∷◌, ◌++◌, map, length, ℤ, pos, negsuc, nat_abs, None, sym, refl, ap, ◌∙◌, subst, ap₂, arith, length-append}
 use Rattle.std.specs.Option.{option_to_list}
 use Rattle.std.specs.Fmt.{signed_decimal}
 use Rattle.std.specs.List.{flat_map}
@@ -12,7 +12,7 @@ use Rattle.sheet.specs.StoredKinds.{Storing, Storable, position_forms}
 use Rattle.book.specs.declared.market.Market.{Market}
 use Rattle.book.specs.declared.position.Position.{Position}
 use Rattle.book.specs.Markets.{variation_of}
-use Rattle.book.specs.SheetReading.{past, positions_told, or_fault, malformed, position_fault, positions_fault}
+use Rattle.book.specs.SheetReading.{past, positions_told, or_fault, position_fault, positions_fault}
 use Rattle.book.specs.SheetTexts.{position_line}
 use Rattle.book.proofs.FinePositions.{fine_from, fine_none, AllFine}
 use Rattle.book.proofs.SheetFaults.{or_both, when_not, well_from, from_well}
@@ -57,10 +57,10 @@ module _ {C : Type 0} (K : Meaning C) (s : Storing C) (laws : Storable K s) (m :
       record { bytes = sym e; count = refl; fine = tt }
   lines_accepted (suc n) line above bs h =
       let rest = past (after 10 bs) in
-      let a = or_both (malformed line (position_forms s.limiter_form) bs) _ h in
+      let a = or_both _ _ h in
       let b = position_back K s laws bs (well_from line (position_forms s.limiter_form) bs a.0) in
       let p = b.position in
-      let c = or_both (position_fault K s m line above (Some p)) (positions_fault K s m n (suc line) (above ++ (p ∷ [])) rest)
+      let c = or_both _ _
       (subst (λ o. or_fault (position_fault K s m line above o) (positions_fault K s m n (suc line) (above ++ option_to_list o) rest) ≡ None) b.told a.1) in
       let d = lines_accepted n (suc line) (above ++ (p ∷ [])) rest c.1 in
       subst (λ o. LinesAccepted (suc n) above bs (option_to_list o ++ positions_told s n rest)) (sym b.told)

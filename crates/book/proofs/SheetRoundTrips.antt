@@ -3,6 +3,7 @@ use Rattle.std.proofs.Common.{◌≡◌, ℕ, ◌+◌, ◌*◌, ◌^◌, ◌<◌
 use Rattle.std.proofs.lemmas.Fmt.{length-decimal-le}
 use Rattle.std.proofs.lemmas.Bool.{ltb-false, le-ltb}
 use Rattle.kinds.specs.Kinds.{Meaning}
+use Rattle.sheet.specs.declared.market_number.MarketNumber.TheVariants as market_number
 use Rattle.sheet.specs.declared.fault.Fault.TheVariants as fault
 use Rattle.sheet.specs.declared.fault.BookCause.TheVariants as book_cause
 use Rattle.sheet.specs.declared.form.Word.{Word}
@@ -124,11 +125,11 @@ module _ {C : Type 0} (K : Meaning C) (s : Storing C) (laws : Storable K s) wher
       ) in
       let market : market_fault bs ≡ None =
       ap₂ or_fault (from_well 1 (head_forms Market) bs l₀.well)
-      (ap₂ or_fault (ap (number_fault 2 1 1 20000000) e₁ ∙ number_none 2 1 1 20000000 m.ceiling b₁ b₂ l₁ r.ceiling_some r.ceiling_low)
-      (ap₂ or_fault (ap₂ (number_fault 3 2 1) n₁ e₂ ∙ number_none 3 2 1 m.ceiling m.reference b₂ b₃ l₂ r.reference_some r.reference_low)
-      (ap₂ or_fault (ap (number_fault 4 3 0 10000) e₃ ∙ number_none 4 3 0 10000 m.factor b₃ b₄ l₃ (omega arith) r.factor_low)
-      (ap₂ or_fault (ap (number_fault 5 4 1 1000) e₄ ∙ number_none 5 4 1 1000 m.size b₄ b₅ l₄ r.size_some r.size_low)
-      (ap₂ or_fault (ap (number_fault 6 5 1 99999) e₅ ∙ number_none 6 5 1 99999 m.rate b₅ b₆ l₅ r.rate_some r.rate_low)
+      (ap₂ or_fault (ap (number_fault 2 market_number.Ceiling 1 20000000) e₁ ∙ number_none 2 market_number.Ceiling 1 20000000 m.ceiling b₁ b₂ l₁ r.ceiling_some r.ceiling_low)
+      (ap₂ or_fault (ap₂ (number_fault 3 market_number.Reference 1) n₁ e₂ ∙ number_none 3 market_number.Reference 1 m.ceiling m.reference b₂ b₃ l₂ r.reference_some r.reference_low)
+      (ap₂ or_fault (ap (number_fault 4 market_number.Factor 0 10000) e₃ ∙ number_none 4 market_number.Factor 0 10000 m.factor b₃ b₄ l₃ (omega arith) r.factor_low)
+      (ap₂ or_fault (ap (number_fault 5 market_number.Size 1 1000) e₄ ∙ number_none 5 market_number.Size 1 1000 m.size b₄ b₅ l₄ r.size_some r.size_low)
+      (ap₂ or_fault (ap (number_fault 6 market_number.Rate 1 99999) e₅ ∙ number_none 6 market_number.Rate 1 99999 m.rate b₅ b₆ l₅ r.rate_some r.rate_low)
       (not_when _ (fault.Book 6 book_cause.Product) (ap (ltb 5000000000000) product ∙ le-ltb 5000000000000 (m.ceiling * m.size * m.rate) r.product_low))))))) in
       let head : head_fault 7 places (after_lines 6 bs) ≡ None =
       ap (head_fault 7 places) e₆

@@ -1,20 +1,11 @@
 -- How large a position's worth and a book's value are at a price up to the ceiling, and a loop's step.
-use Rattle.std.proofs.Common.{◌≡◌, ℕ, zero, suc, ◌+◌, ◌*◌, ◌<◌, ◌≤◌, true, List, [], ◌∷◌, ◌++◌, length, get_or, take, ℤ, pos, negsuc, ◌+ℤ◌, ◌*ℤ◌, nat_abs, ◌≤ℤ◌, ◌<ℤ◌, sym, refl, ap, ◌∙◌, le_refl, add-mul, mul-le-mul, arith, w32, w64, SFits, to_z, of_z}
+use Rattle.std.proofs.Common.{◌≡◌, ℕ, zero, suc, ◌+◌, ◌*◌, ◌<◌, ◌≤◌, true, List, [], ◌∷◌, ◌++◌, length, get_or, take, ℤ, pos, negsuc, ◌+ℤ◌, ◌*ℤ◌, nat_abs, sym, ap, ◌∙◌, le_refl, add-mul, mul-le-mul, arith, w32, w64, SFits, to_z, of_z}
 use borrow.Author.Differences.{ints}
 use Rattle.std.proofs.lemmas.List.{take_more}
 use Rattle.std.proofs.ByRecursion.{All-get_or}
 use Rattle.book.specs.declared.position.Position.{Position}
 use Rattle.kinds.specs.Kinds.{Meaning, Lawful}
 use Rattle.book.specs.Losses.{paid, worth, value, Fitting, gross}
-
-module _ {C : Type 0} (K : Meaning C) (v : ℕ) where
-  pub paid_sold : (c : C) (z : ℤ) (x : ℕ) → z <ℤ pos 0 → paid K v c z x ≡ K.payment_under c v x
-  paid_sold c (pos n) x h = absurd (omega (arith, ints))
-  paid_sold c (negsuc n) x h = refl
-
-  pub paid_bought : (c : C) (z : ℤ) (x : ℕ) → pos 0 ≤ℤ z → paid K v c z x ≡ K.payment c x
-  paid_bought c (pos n) x h = refl
-  paid_bought c (negsuc n) x h = absurd (omega (arith, ints))
 
 -- a product of a quantity and a payment
 pub product_most : (z : ℤ) (n a b : ℕ) → nat_abs z ≤ a → n ≤ b → nat_abs (z *ℤ pos n) ≤ a * b

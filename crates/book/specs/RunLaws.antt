@@ -4,8 +4,8 @@ use Rattle.kinds.specs.Kinds.{Meaning}
 use Rattle.book.specs.declared.refusal.Refusal.{Refusal}
 use Rattle.book.specs.declared.call.Call.{Call}
 use Rattle.book.specs.declared.call.Call.TheVariants as call
-use Rattle.book.specs.declared.call.Reply.{Reply}
-use Rattle.book.specs.declared.call.Reply.TheVariants as reply
+use Rattle.book.specs.declared.call.Answer.{Answer}
+use Rattle.book.specs.declared.call.Answer.TheVariants.{Done, Minimum, Required}
 use Rattle.book.specs.Losses.{sold}
 use Rattle.book.specs.Markets.{unit_margin, value_unit}
 use Rattle.book.specs.Prices.{Margin, Least, Covers, CoversBoth, centavos}
@@ -16,17 +16,10 @@ use Rattle.book.specs.Tallies.{Tally, Kept, Valid}
 
 -- The margins of a tally t: the minimum margin is the least number of centavos that covers the protected loss at every whole price, and never passes the
 -- unit minimum margins of all single contracts held sold, summed and rounded up; the required margin covers every scenario too.
-abbrev pub Answers : {C : Type 0} → Meaning C → Tally C → Call C → Reply → Type 0
-Answers K t (call.Trade c q) r = Unit {0}
-Answers K t (call.Change m) r = Unit {0}
-Answers K t call.Minimum reply.Done = Unit {0}
-Answers K t call.Minimum (reply.Refused e) = Unit {0}
-Answers K t call.Minimum (reply.Minimum n at) = Margin (loss_of K t) n at × (n ≤ centavos (pos (sold t.positions * unit_margin t.market)))
-Answers K t call.Minimum (reply.Required n) = Unit {0}
-Answers K t (call.Required s table) reply.Done = Unit {0}
-Answers K t (call.Required s table) (reply.Refused e) = Unit {0}
-Answers K t (call.Required s table) (reply.Minimum n at) = Unit {0}
-Answers K t (call.Required s table) (reply.Required n) = Least (CoversBoth (loss_of K t) (scenario_losses (value_unit t.market) t.positions s table.now)) n
+abbrev pub Answers : {C : Type 0} → Meaning C → Tally C → Call C → Result Answer Refusal → Type 0
+Answers K t call.Minimum (Ok (Minimum n at)) = Margin (loss_of K t) n at × (n ≤ centavos (pos (sold t.positions * unit_margin t.market)))
+Answers K t (call.Required s table) (Ok (Required n)) = Least (CoversBoth (loss_of K t) (scenario_losses (value_unit t.market) t.positions s table.now)) n
+Answers K t c r = Unit {0}
 
 -- The least number that covers the protected loss before and after a trade of q contracts: a sale does not lower it, a purchase does not raise it.
 abbrev pub Moves : {C : Type 0} → Meaning C → ℤ → Tally C → Tally C → Type 0
@@ -34,44 +27,37 @@ Moves K q t u = (m n : ℕ) → Least (Covers (loss_of K t)) m → Least (Covers
 
 abbrev pub Effects : {C : Type 0} → Meaning C → Tally C → Call C → Tally C → Type 0
 Effects K t (call.Trade c q) u = Moves K q t u
-Effects K t (call.Change m) u = Unit {0}
-Effects K t call.Minimum u = Unit {0}
-Effects K t (call.Required s table) u = Unit {0}
+Effects K t c u = Unit {0}
 
 -- Each step is what the tally gives, its margins are right, and the tally stays kept.
-pub data RightRun {C : Type 0} (K : Meaning C) : Tally C → List (Call C) → List Reply → Tally C → Type 0 where
+pub data RightRun {C : Type 0} (K : Meaning C) : Tally C → List (Call C) → List (Result Answer Refusal) → Tally C → Type 0 where
   ends : (t : Tally C) → Kept K t → RightRun K t [] [] t
-  goes : (t : Tally C) (c : Call C) (r : Reply) (u : Tally C) (cs : List (Call C)) (rs : List Reply) (e : Tally C) → Kept K t → Step K t c r u → Answers K t c r → Effects K t c u → RightRun K u cs rs e → RightRun K t (c ∷ cs) (r ∷ rs) e
+  goes : (t : Tally C) (c : Call C) (r : Result Answer Refusal) (u : Tally C) (cs : List (Call C)) (rs : List (Result Answer Refusal)) (e : Tally C) → Kept K t → Step K t c r u → Answers K t c r → Effects K t c u → RightRun K u cs rs e → RightRun K t (c ∷ cs) (r ∷ rs) e
 
 abbrev pub RunsRight : {C : Type 0} → Meaning C → Type 0
-RunsRight {C} K = (t e : Tally C) (cs : List (Call C)) (rs : List Reply) → Kept K t → Run K t cs rs e → RightRun K t cs rs e
+RunsRight {C} K = (t e : Tally C) (cs : List (Call C)) (rs : List (Result Answer Refusal)) → Kept K t → Run K t cs rs e → RightRun K t cs rs e
 
 -- What the accepted trades of a run add to the net quantity in a contract.
-abbrev pub added : {C : Type 0} → Meaning C → C → Call C → Reply → ℤ
-added K d (call.Trade c q) reply.Done = cond (K.same c d) q (pos 0)
-added K d (call.Trade c q) (reply.Refused e) = pos 0
-added K d (call.Trade c q) (reply.Minimum n at) = pos 0
-added K d (call.Trade c q) (reply.Required n) = pos 0
-added K d (call.Change m) r = pos 0
-added K d call.Minimum r = pos 0
-added K d (call.Required s table) r = pos 0
+abbrev pub added : {C : Type 0} → Meaning C → C → Call C → Result Answer Refusal → ℤ
+added K d (call.Trade c q) (Ok Done) = cond (K.same c d) q (pos 0)
+added K d c r = pos 0
 
-abbrev pub all_added : {C : Type 0} → Meaning C → C → List (Call C) → List Reply → ℤ
+abbrev pub all_added : {C : Type 0} → Meaning C → C → List (Call C) → List (Result Answer Refusal) → ℤ
 all_added K d [] rs = pos 0
 all_added K d (c ∷ cs) [] = pos 0
 all_added K d (c ∷ cs) (r ∷ rs) = added K d c r +ℤ all_added K d cs rs
 
 -- Each contract's net quantity is what it was at the start plus the sum of the accepted trades in it.
 abbrev pub NetsAddUp : {C : Type 0} → Meaning C → Type 0
-NetsAddUp {C} K = (t e : Tally C) (cs : List (Call C)) (rs : List Reply) → Run K t cs rs e → (d : C) → net_in K d e.positions ≡ net_in K d t.positions +ℤ all_added K d cs rs
+NetsAddUp {C} K = (t e : Tally C) (cs : List (Call C)) (rs : List (Result Answer Refusal)) → Run K t cs rs e → (d : C) → net_in K d e.positions ≡ net_in K d t.positions +ℤ all_added K d cs rs
 
 -- A run that keeps every promise: each step is right, net quantities add up, and the tally that it ends with keeps the rules.
-pub record LawfulRun {C : Type 0} (K : Meaning C) (t : Tally C) (calls : List (Call C)) (replies : List Reply) (u : Tally C) : Type 0 where
+pub record LawfulRun {C : Type 0} (K : Meaning C) (t : Tally C) (calls : List (Call C)) (replies : List (Result Answer Refusal)) (u : Tally C) : Type 0 where
   pub steps : RightRun K t calls replies u
   pub nets : (d : C) → net_in K d u.positions ≡ net_in K d t.positions +ℤ all_added K d calls replies
   pub valid : Valid K u
 
 -- A run whose replies stand at the front of a list of places keeps every promise.
-abbrev pub RanLawfully : {C : Type 0} → Meaning C → Tally C → List (Call C) → List Reply → Tally C → Result (Unit {0}) Refusal → Type 0
+abbrev pub RanLawfully : {C : Type 0} → Meaning C → Tally C → List (Call C) → List (Result Answer Refusal) → Tally C → Result (Unit {0}) Refusal → Type 0
 RanLawfully K t calls new u (Ok x) = LawfulRun K t calls (take (length calls) new) u
 RanLawfully K t calls new u (Err e) = Unit {0}

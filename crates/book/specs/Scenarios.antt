@@ -1,5 +1,6 @@
 -- Stress scenarios: a table of values, scenario after scenario, one for each position in book order.
 use Rattle.std.specs.Prelude.{◌≡◌, ℕ, zero, suc, ◌*◌, max, cond, not, List, [], ◌∷◌, length, take, drop, ℤ, pos, ◌+ℤ◌, ◌*ℤ◌, neg_ℤ, Some, None, Ok, Err, Option, Result, ◌==◌, nat_lt}
+use Rattle.std.specs.List.{position}
 use Rattle.std.specs.Option.{option_map}
 use Rattle.book.specs.declared.position.Position.{Position}
 use Rattle.book.specs.declared.refusal.Refusal.{Refusal}
@@ -26,8 +27,7 @@ scenario_losses unit ps (suc n) table = scenario_loss unit ps (take (length ps) 
 
 -- The place of the first number above a limit.
 abbrev pub first_above : ℕ → List ℕ → Option ℕ
-first_above limit [] = None
-first_above limit (x ∷ xs) = cond (nat_lt limit x) (Some 0) (option_map suc (first_above limit xs))
+first_above limit xs = position (nat_lt limit) xs
 
 -- The required question tries the scenarios, the table's length, and its values.
 abbrev pub required_refusal : {C : Type 0} → Tally C → ℕ → List ℕ → Option Refusal

@@ -1,10 +1,13 @@
 -- What a sheet tells, line by line from the top, and the first fault in it. K and s are the meaning and the storing of its kind.
-use Rattle.std.specs.Prelude.{◌≡◌, ℕ, zero, suc, ◌+◌, ◌*◌, Bool, false, cond, not, ◌||◌, List, [], ◌∷◌, ◌++◌, length, drop, ℤ, Some, None, Ok, Err, Option, Result, ◌==◌, nat_lt, slice_index_or, unsigned_abs}
+use Rattle.std.specs.Prelude.{◌≡◌, ℕ, zero, suc, ◌+◌, ◌*◌, Bool, cond, not, List, [], ◌++◌, length, drop, map, ℤ, Some, None, Ok, Err, Option, Result, ◌==◌, nat_lt, slice_index_or, unsigned_abs}
 use Rattle.std.specs.Option.{option_map, option_to_list}
+use Rattle.std.specs.List.{list_any}
 use Rattle.kinds.specs.declared.contract_refusal.ContractRefusal.{ContractRefusal}
 use Rattle.kinds.specs.Kinds.{Meaning}
 use Rattle.sheet.specs.declared.form.Form.{Form}
 use Rattle.sheet.specs.declared.form.Word.TheVariants as word
+use Rattle.sheet.specs.declared.market_number.MarketNumber.{MarketNumber}
+use Rattle.sheet.specs.declared.market_number.MarketNumber.TheVariants as market_number
 use Rattle.sheet.specs.declared.fault.LineCause.TheVariants as line_cause
 use Rattle.sheet.specs.declared.fault.BookCause.TheVariants as book_cause
 use Rattle.sheet.specs.declared.fault.Fault.{Fault}
@@ -43,9 +46,13 @@ number_at n bs = read_on 0 (field_at 0 (after_lines n bs))
 abbrev pub market_told : List ℕ → Market
 market_told bs = record { ceiling = number_at 1 bs; reference = number_at 2 bs; factor = number_at 3 bs; size = number_at 4 bs; rate = number_at 5 bs }
 
+-- The number of a head.
+abbrev pub head_number : List ℕ → ℕ
+head_number bs = read_on 0 (field_at 1 bs)
+
 -- How many positions the second head tells.
 abbrev pub count_told : List ℕ → ℕ
-count_told bs = read_on 0 (field_at 1 (after_lines 6 bs))
+count_told bs = head_number (after_lines 6 bs)
 
 -- The contract and the quantity of a position line.
 abbrev pub text_at : Option Form → List ℕ → ContractText
@@ -84,36 +91,39 @@ malformed line forms bs = cond (well_formed forms bs) None (Some (fault.Field li
 abbrev pub when : Bool → Fault → Option Fault
 when b f = cond b (Some f) None
 
--- A line with the market's n-th number.
-abbrev pub number_fault : ℕ → ℕ → ℕ → ℕ → List ℕ → Option Fault
-number_fault line n low high bs =
-    or_fault (malformed line number_forms bs) (when (outside (read_on 0 (field_at 0 bs)) low high) (fault.Line line (line_cause.MarketNumber n)))
+-- A line with one of the market's numbers.
+abbrev pub number_fault : ℕ → MarketNumber → ℕ → ℕ → List ℕ → Option Fault
+number_fault line which low high bs =
+    or_fault (malformed line number_forms bs) (when (outside (read_on 0 (field_at 0 bs)) low high) (fault.Line line (line_cause.MarketNumber which)))
+
+-- Ceiling × size × rate is too large.
+abbrev pub product_fault : ℕ → Market → Option Fault
+product_fault line m = when (nat_lt 5000000000000 (m.ceiling * m.size * m.rate)) (fault.Book line book_cause.Product)
 
 abbrev pub market_fault : List ℕ → Option Fault
 market_fault bs =
     or_fault (malformed 1 (head_forms word.Market) bs)
-    (or_fault (number_fault 2 1 1 20000000 (after_lines 1 bs))
-    (or_fault (number_fault 3 2 1 (number_at 1 bs) (after_lines 2 bs))
-    (or_fault (number_fault 4 3 0 10000 (after_lines 3 bs))
-    (or_fault (number_fault 5 4 1 1000 (after_lines 4 bs))
-    (or_fault (number_fault 6 5 1 99999 (after_lines 5 bs))
-    (when (nat_lt 5000000000000 (number_at 1 bs * number_at 4 bs * number_at 5 bs)) (fault.Book 6 book_cause.Product)))))))
+    (or_fault (number_fault 2 market_number.Ceiling 1 20000000 (after_lines 1 bs))
+    (or_fault (number_fault 3 market_number.Reference 1 (number_at 1 bs) (after_lines 2 bs))
+    (or_fault (number_fault 4 market_number.Factor 0 10000 (after_lines 3 bs))
+    (or_fault (number_fault 5 market_number.Size 1 1000 (after_lines 4 bs))
+    (or_fault (number_fault 6 market_number.Rate 1 99999 (after_lines 5 bs))
+    (product_fault 6 (market_told bs)))))))
 
 -- The line with the head of the positions.
 abbrev pub head_fault : ℕ → ℕ → List ℕ → Option Fault
 head_fault line places bs =
-    or_fault (malformed line (head_forms word.Positions) bs) (when (nat_lt places (read_on 0 (field_at 1 bs))) (fault.Book line book_cause.Places))
+    or_fault (malformed line (head_forms word.Positions) bs) (when (nat_lt places (head_number bs)) (fault.Book line book_cause.Places))
 
--- The contract is named by one of these positions.
-abbrev pub named_in : {C : Type 0} → Meaning C → C → List (Position C) → Bool
-named_in K c [] = false
-named_in K c (p ∷ ps) = K.same p.contract c || named_in K c ps
+-- The contracts of positions, in their order.
+abbrev pub contracts_of : {C : Type 0} → List (Position C) → List C
+contracts_of ps = map (λ p. p.contract) ps
 
--- The contract is the same as one of these.
-abbrev pub named_among : {C : Type 0} → Meaning C → C → List C → Bool
-named_among K c [] = false
-named_among K c (d ∷ ds) = K.same d c || named_among K c ds
+-- The contract is one of these.
+abbrev pub named : {C : Type 0} → Meaning C → C → List C → Bool
+named K c seen = list_any (λ d. K.same d c) seen
 
+-- A contract that is not made.
 abbrev pub contract_fault : ℕ → Option ContractRefusal → Option Fault
 contract_fault line r = option_map (λ e. fault.Line line (line_cause.Contract e)) r
 
@@ -124,15 +134,16 @@ own_fault K s m line p =
     (or_fault (when (outside (unsigned_abs p.net) 1 10000) (fault.Line line line_cause.Quantity))
     (when (not (K.fits p.contract (variation_of m) m.ceiling)) (fault.Book line book_cause.DoesNotFit)))
 
--- What is wrong with it after these ones.
-abbrev pub above_fault : {C : Type 0} → Meaning C → ℕ → List (Position C) → Position C → Option Fault
-above_fault K line above p =
-    or_fault (when (nat_lt 10000 (gross above + unsigned_abs p.net)) (fault.Book line book_cause.Contracts))
-    (when (named_in K p.contract above) (fault.Book line book_cause.NamedTwice))
+-- What is wrong with it below positions in these contracts, so many in all.
+abbrev pub joined_fault : {C : Type 0} → Meaning C → Storing C → Market → ℕ → ℕ → List C → Position C → Option Fault
+joined_fault K s m line contracts seen p =
+    or_fault (own_fault K s m line p)
+    (or_fault (when (nat_lt 10000 (contracts + unsigned_abs p.net)) (fault.Book line book_cause.Contracts))
+    (when (named K p.contract seen) (fault.Book line book_cause.NamedTwice)))
 
 abbrev pub position_fault : {C : Type 0} → Meaning C → Storing C → Market → ℕ → List (Position C) → Option (Position C) → Option Fault
 position_fault K s m line above None = None
-position_fault K s m line above (Some p) = or_fault (own_fault K s m line p) (above_fault K line above p)
+position_fault K s m line above (Some p) = joined_fault K s m line (gross above) (contracts_of above) p
 
 -- The position lines from this one on, n of them, and then the end of the sheet.
 abbrev pub positions_fault : {C : Type 0} → Meaning C → Storing C → Market → ℕ → ℕ → List (Position C) → List ℕ → Option Fault
@@ -149,28 +160,42 @@ lines_fault K s places bs =
     (or_fault (head_fault 7 places (after_lines 6 bs))
     (positions_fault K s (market_told bs) (count_told bs) 8 [] (after_lines 7 bs)))
 
+-- A sheet above 65,536 bytes.
+abbrev pub length_fault : List ℕ → Option Fault
+length_fault bs = when (nat_lt 65536 (length bs)) (fault.Book 0 book_cause.TooLong)
+
 -- The first fault of a sheet that is read into a book with these places.
 abbrev pub sheet_fault : {C : Type 0} → Meaning C → Storing C → ℕ → List ℕ → Option Fault
-sheet_fault K s places bs = or_fault (when (nat_lt 65536 (length bs)) (fault.Book 0 book_cause.TooLong)) (lines_fault K s places bs)
+sheet_fault K s places bs = or_fault (length_fault bs) (lines_fault K s places bs)
 
 -- The bytes that the reader has before it.
 abbrev pub unread : Reader → List ℕ
 unread r = drop r.at r.sheet.now
 
--- A line was read: it has no fault, tells x, and the reader goes on behind it; or it has a fault.
-abbrev pub LineRead : {X : Type 0} → Option Fault → Option X → List ℕ → ℕ → List ℕ → ℕ → Result X Fault → Type 0
-LineRead first told bs lines bs' lines' (Ok x) = (first ≡ None) × (told ≡ Some x) × (bs' ≡ past (after 10 bs)) × (lines' ≡ suc lines)
-LineRead first told bs lines bs' lines' (Err e) = first ≡ Some e
+-- There is no fault, and P holds of what was found; or the first fault is told.
+abbrev pub Tested : {X : Type 0} → Option Fault → (X → Type 0) → Result X Fault → Type 0
+Tested first P (Ok x) = (first ≡ None) × P x
+Tested first P (Err e) = first ≡ Some e
 
--- The head of a sheet was read: five numbers that are a market.
-abbrev pub MarketRead : List ℕ → List ℕ → ℕ → Result Market Fault → Type 0
-MarketRead bs bs' lines' (Ok m) = (market_fault bs ≡ None) × (m ≡ market_told bs) × (bs' ≡ after_lines 6 bs) × (lines' ≡ 6)
-MarketRead bs bs' lines' (Err e) = market_fault bs ≡ Some e
-
--- Lines were checked: they have no fault, or the first is told.
+-- There is no fault, or the first is told.
 abbrev pub Checked : Option Fault → Result (Unit {0}) Fault → Type 0
-Checked first (Ok x) = first ≡ None
-Checked first (Err e) = first ≡ Some e
+Checked first r = Tested first (λ x. Unit {0}) r
+
+-- The reader stands n lines further, behind lines that tell x.
+pub record WentOn {X : Type 0} (n : ℕ) (Tells : List ℕ → X → Type 0) (old new : Reader) (x : X) : Type 0 where
+  pub tells : Tells (unread old) x
+  pub at : unread new ≡ after_lines n (unread old)
+  pub lines : new.lines ≡ old.lines + n
+
+-- n lines were read: they tell something, or their first fault is told, by the number of the first line and the bytes from there on. The reader keeps its sheet.
+pub record ReadOn {X : Type 0} (n : ℕ) (fault : ℕ → List ℕ → Option Fault) (Tells : List ℕ → X → Type 0) (old new : Reader) (r : Result X Fault) : Type 0 where
+  pub same : new.sheet.now ≡ old.sheet.now
+  pub told : Tested (fault (old.lines + 1) (unread old)) (WentOn n Tells old new) r
+
+-- Lines were checked by a reader, which keeps its sheet.
+pub record CheckedOn (first : Option Fault) (old new : Reader) (r : Result (Unit {0}) Fault) : Type 0 where
+  pub same : new.sheet.now ≡ old.sheet.now
+  pub told : Checked first r
 
 -- Reading replaces market and positions by those that the sheet tells, or names its first fault and changes nothing.
 abbrev pub SheetRead : {C : Type 0} → Meaning C → Storing C → List ℕ → Tally C → Tally C → Result (Unit {0}) Refusal → Type 0

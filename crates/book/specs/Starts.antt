@@ -8,7 +8,7 @@ use Rattle.sheet.specs.declared.fault.Fault.TheVariants as fault
 use Rattle.sheet.specs.declared.fault.BookCause.TheVariants as book_cause
 use Rattle.book.specs.declared.book.Book.{Book}
 use Rattle.book.specs.declared.call.Call.{Call}
-use Rattle.book.specs.declared.call.Reply.{Reply}
+use Rattle.book.specs.declared.call.Answer.{Answer}
 use Rattle.book.specs.declared.market.Market.{Market}
 use Rattle.book.specs.declared.places.Places.{Places}
 use Rattle.book.specs.declared.refusal.Refusal.{Refusal}
@@ -41,13 +41,13 @@ start_tally s places (Fresh m) = fresh places m
 start_tally s places (Sheet bs) = tally_told s places bs.now
 
 -- Too few places for the replies.
-abbrev pub replies_refusal : {C : Type 0} → List (Call C) → List Reply → Option Refusal
+abbrev pub replies_refusal : {C : Type 0} → List (Call C) → List (Result Answer Refusal) → Option Refusal
 replies_refusal calls replies = cond (nat_lt (length replies) (length calls)) (Some (refusal.Buffer (length calls))) None
 
 -- A book was started with the tally t and ran the calls: every promise of a run holds, and the replies stand at the front of
 -- their places; or it was turned away by the first cause of the start, or else by too few places for the replies: the book's places are handed
 -- back with their count, and the replies are as they were.
-abbrev pub Started : {C : Type 0} {g : Ghosts C} → Meaning C → ℕ → Option Refusal → Tally C → List (Call C) → List Reply → List Reply → Result (Book C g) (Refusal × Places C g) → Type 0
+abbrev pub Started : {C : Type 0} {g : Ghosts C} → Meaning C → ℕ → Option Refusal → Tally C → List (Call C) → List (Result Answer Refusal) → List (Result Answer Refusal) → Result (Book C g) (Refusal × Places C g) → Type 0
 Started K count why t calls old new (Ok b) =
     (or_else why (replies_refusal calls old) ≡ None) × LawfulRun K t calls (take (length calls) new) (tally_of b) × (drop (length calls) new ≡ drop (length calls) old)
 Started K count why t calls old new (Err e) = (or_else why (replies_refusal calls old) ≡ Some e.0) × (e.1.count ≡ count) × (new ≡ old)

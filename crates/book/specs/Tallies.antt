@@ -1,5 +1,6 @@
 -- The tally: a plain list of positions with places and a market, and what each call does to it.
-use Rattle.std.specs.Prelude.{◌≡◌, ℕ, suc, ◌<◌, ◌≤◌, true, cond, not, List, [], ◌∷◌, length, ℤ, Some, None, Ok, Err, vec_items, Option, Result, nat_lt, slice_index_or, unsigned_abs}
+use Rattle.std.specs.Prelude.{◌≡◌, ℕ, ◌<◌, ◌≤◌, true, cond, not, List, length, ℤ, Some, None, Ok, Err, vec_items, Option, Result, nat_lt, slice_index_or, unsigned_abs}
+use Rattle.std.specs.List.{position}
 use Rattle.std.specs.Option.{option_map}
 use Rattle.kinds.specs.declared.kind.Kind.{Ghosts}
 use Rattle.kinds.specs.Kinds.{Meaning}
@@ -18,7 +19,7 @@ pub record Tally (C : Type 0) : Type 0 where
   pub positions : List (Position C)
 
 abbrev pub tally_of : {C : Type 0} {g : Ghosts C} → Book C g → Tally C
-tally_of b = record { places = b.places; market = b.market; positions = vec_items b.positions }
+tally_of b = record { places = b.places; market = b.market.numbers; positions = vec_items b.positions }
 
 -- What a tally keeps of its kind: every held contract fits the market, and none is held twice.
 pub record Kept {C : Type 0} (K : Meaning C) (t : Tally C) : Type 0 where
@@ -65,8 +66,7 @@ Told refusal old after new (Err e) = (refusal ≡ Some e) × (new ≡ old)
 
 -- The index of the first held contract that does not fit a variation v and a ceiling u.
 abbrev pub first_unfit : {C : Type 0} → Meaning C → ℕ → ℕ → List (Position C) → Option ℕ
-first_unfit K v u [] = None
-first_unfit K v u (p ∷ ps) = cond (K.fits p.contract v u) (option_map suc (first_unfit K v u ps)) (Some 0)
+first_unfit K v u ps = position (λ p. not (K.fits p.contract v u)) ps
 
 -- A market change tries the five numbers, their product, and every held contract.
 abbrev pub change_refusal : {C : Type 0} → Meaning C → Tally C → Market → Option Refusal

@@ -11,11 +11,14 @@ pub enum Call<'a, K> {
     Required(usize, &'a [u32]),
 }
 
-#[derive(Clone, Copy)]
-pub enum Reply {
+// The answer to a call that is not turned away.
+#[derive(Clone, Copy, PartialEq, Debug)]
+pub enum Answer {
     Done,
-    Refused(Refusal),
     // centavos, and the price they are for
     Minimum(u64, Option<u32>),
     Required(u64),
 }
+
+// The reply to a call: its answer, or why it is turned away.
+pub type Reply = Result<Answer, Refusal>;

@@ -1,5 +1,4 @@
 // A market change: it replaces all five numbers.
-ghost use Rattle.std.specs.Prelude.{◌≡◌};
 ghost use Rattle.book.specs.Tallies.{tally_of, change_refusal, in_market, Told};
 
 use crate::book::Book;
@@ -12,14 +11,8 @@ impl<K: Kind> Book<K> {
     pub fn change(&mut self, market: Market) -> Result<(), Refusal>
         ensures { Told (change_refusal K.means (tally_of self.old) market) (tally_of self.old) (in_market (tally_of self.old) market) (tally_of self.new) result }
     {
-        if let Some(refusal) = market.refusal() {
-            return Err(refusal);
-        }
-        if let Some(index) = first_unfit(
-            self.positions.as_slice(),
-            market.variation(),
-            market.ceiling,
-        ) {
+        let market = market.in_force()?;
+        if let Some(index) = first_unfit(self.positions.as_slice(), &market) {
             return Err(Refusal::HeldDoesNotFit(index));
         }
         self.market = market;

@@ -25,13 +25,15 @@ impl<K: Kind> Places<K> {
 }
 
 impl<K: Kind> Book<K> {
+    // Cause and places are a pair in each start's refusal: a struct for both would have no method.
     // A fresh book holds no position; a refusal hands the places back.
     pub fn open(places: Places<K>, market: Market) -> Result<Book<K>, (Refusal, Places<K>)>
         ensures { MatchResult result (λ b. (open_refusal places.count market ≡ None) × (tally_of b ≡ record { places = places.count; market = market; positions = [] }) × Kept K.means (tally_of b)) (λ e. (open_refusal places.count market ≡ Some e.0) × (e.1 ≡ places)) }
     {
-        if let Some(refusal) = market.refusal() {
-            return Err((refusal, places));
-        }
+        let market = match market.in_force() {
+            Ok(market) => market,
+            Err(refusal) => return Err((refusal, places)),
+        };
         if places.count < 1 || places.count > 128 {
             return Err((Refusal::Places, places));
         }

@@ -3,14 +3,15 @@ ghost use Rattle.std.specs.Prelude.{◌≡◌, ◌∷◌, ◌++◌, None};
 ghost use Rattle.std.specs.Option.{option_to_list};
 ghost use Rattle.sheet.specs.Faults.{fault_line, fault_values};
 ghost use Rattle.book.specs.Refusals.{refusal_number, refusal_values};
+ghost use Rattle.book.specs.declared.refusal.Refusal.TheVariants.{Sheet};
 
 use kinds::ContractRefusal;
-use sheet::{Fault, LineCause};
+use sheet::{Fault, LineCause, MarketNumber};
 
 #[derive(Clone, Copy, PartialEq, Debug)]
 pub enum Refusal {
-    // which of the market's five numbers is the first outside its range, from 1
-    MarketNumber(u8),
+    // the first of the market's numbers that is outside its range
+    MarketNumber(MarketNumber),
     // ceiling × size × rate is too large
     Product,
     // places not 1 to 128
@@ -42,7 +43,16 @@ pub enum Refusal {
     Buffer(usize),
 }
 
+impl From<Fault> for Refusal {
+    ghost from_gives = { λ f e. e ≡ Sheet f };
+
+    fn from(cause: Fault) -> Refusal {
+        Refusal::Sheet(cause)
+    }
+}
+
 impl Refusal {
+    // A method: a refusal has a number and values, and `u32::from(refusal)` would not say which it gives.
     pub fn number(self) -> u32
         ensures { result ≡ refusal_number self }
     {
@@ -66,7 +76,7 @@ impl Refusal {
         }
     }
 
-    // What is returned beside the number: none, one or two values.
+    // What is returned beside the number: none, one or two values. A pair of options, since a list would want memory.
     pub fn values(self) -> (Option<usize>, Option<usize>)
         ensures told { option_to_list result.0 ++ option_to_list result.1 ≡ refusal_values self }
         ensures first { result.0 ≡ None → result.1 ≡ None }

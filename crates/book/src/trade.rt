@@ -5,37 +5,23 @@ ghost use Rattle.book.specs.Tallies.{Kept, tally_of, holding, ends_refusal, trad
 ghost use Rattle.book.specs.Trades.{traded, traded_at};
 
 use crate::book::Book;
-use crate::contracts::contracts;
 use crate::find::find;
 use crate::position::Position;
+use crate::quantity::Quantity;
 use crate::refusal::Refusal;
 use kinds::Kind;
 
-// The contracts in all after a trade in the position at this index.
-pub(crate) fn contracts_after<K: Copy>(
-    positions: &[Position<K>],
-    index: usize,
-    quantity: i32,
-) -> u32
-    requires few { gross positions.now ≤ 10000 }
-    requires within { index < length positions.now }
-    requires small { unsigned_abs quantity ≤ 10000 }
-    ensures { (d : Position K) → result ≡ gross (traded_at positions.now index (slice_index_or positions.now index d) quantity) }
-{
-    let held = positions[index].net;
-    contracts(positions) - held.unsigned_abs() + (held + quantity).unsigned_abs()
-}
-
 impl<K: Kind> Book<K> {
+    // What is asked as `kept` speaks of the positions after the trade, another list in each function; an index is of the positions at the call, which the trade changes.
+
     // Adds to the net quantity of the position at this index; at zero the position goes.
-    fn add(&mut self, index: usize, quantity: i32)
+    fn add(&mut self, index: usize, quantity: Quantity)
         requires within { index < length self.old.positions.items }
-        requires small { unsigned_abs quantity ≤ 10000 }
-        requires few { (d : Position K) → gross (traded_at self.old.positions.items index (slice_index_or self.old.positions.items index d) quantity) ≤ 10000 }
-        requires kept { (d : Position K) → Kept K.means (holding (tally_of self.old) (traded_at self.old.positions.items index (slice_index_or self.old.positions.items index d) quantity)) }
-        ensures { (d : Position K) → tally_of self.new ≡ record { places = self.old.places; market = self.old.market; positions = traded_at self.old.positions.items index (slice_index_or self.old.positions.items index d) quantity } }
+        requires few { (d : Position K) → gross (traded_at self.old.positions.items index (slice_index_or self.old.positions.items index d) quantity.contracts) ≤ 10000 }
+        requires kept { (d : Position K) → Kept K.means (holding (tally_of self.old) (traded_at self.old.positions.items index (slice_index_or self.old.positions.items index d) quantity.contracts)) }
+        ensures { (d : Position K) → tally_of self.new ≡ record { places = self.old.places; market = self.old.market.numbers; positions = traded_at self.old.positions.items index (slice_index_or self.old.positions.items index d) quantity.contracts } }
     {
-        let net = self.positions[index].net + quantity;
+        let net = self.positions[index].net + quantity.contracts;
         if net == 0 {
             let _ = self.positions.remove(index);
         } else {
@@ -58,13 +44,12 @@ impl<K: Kind> Book<K> {
     }
 
     // A trade in the contract that is held at this index.
-    fn trade_held(&mut self, index: usize, quantity: i32) -> Result<(), Refusal>
+    fn trade_held(&mut self, index: usize, quantity: Quantity) -> Result<(), Refusal>
         requires within { index < length self.old.positions.items }
-        requires small { unsigned_abs quantity ≤ 10000 }
-        requires kept { (d : Position K) → Kept K.means (holding (tally_of self.old) (traded_at self.old.positions.items index (slice_index_or self.old.positions.items index d) quantity)) }
-        ensures { (d : Position K) → Told (ends_refusal (tally_of self.old) (traded_at self.old.positions.items index (slice_index_or self.old.positions.items index d) quantity)) (tally_of self.old) (holding (tally_of self.old) (traded_at self.old.positions.items index (slice_index_or self.old.positions.items index d) quantity)) (tally_of self.new) result }
+        requires kept { (d : Position K) → Kept K.means (holding (tally_of self.old) (traded_at self.old.positions.items index (slice_index_or self.old.positions.items index d) quantity.contracts)) }
+        ensures { (d : Position K) → Told (ends_refusal (tally_of self.old) (traded_at self.old.positions.items index (slice_index_or self.old.positions.items index d) quantity.contracts)) (tally_of self.old) (holding (tally_of self.old) (traded_at self.old.positions.items index (slice_index_or self.old.positions.items index d) quantity.contracts)) (tally_of self.new) result }
     {
-        if contracts_after(self.positions.as_slice(), index, quantity) > 10_000 {
+        if self.held().contracts_after(index, quantity) > 10_000 {
             return Err(Refusal::Contracts);
         }
         self.add(index, quantity);
@@ -72,19 +57,17 @@ impl<K: Kind> Book<K> {
     }
 
     // A trade in a contract that is not held.
-    fn trade_new(&mut self, contract: K, quantity: i32) -> Result<(), Refusal>
-        requires some { 1 ≤ unsigned_abs quantity }
-        requires small { unsigned_abs quantity ≤ 10000 }
-        requires kept { Kept K.means (holding (tally_of self.old) (self.old.positions.items ++ record { contract = contract; net = quantity } ∷ [])) }
-        ensures { Told (ends_refusal (tally_of self.old) (self.old.positions.items ++ record { contract = contract; net = quantity } ∷ [])) (tally_of self.old) (holding (tally_of self.old) (self.old.positions.items ++ record { contract = contract; net = quantity } ∷ [])) (tally_of self.new) result }
+    fn trade_new(&mut self, contract: K, quantity: Quantity) -> Result<(), Refusal>
+        requires kept { Kept K.means (holding (tally_of self.old) (self.old.positions.items ++ record { contract = contract; net = quantity.contracts } ∷ [])) }
+        ensures { Told (ends_refusal (tally_of self.old) (self.old.positions.items ++ record { contract = contract; net = quantity.contracts } ∷ [])) (tally_of self.old) (holding (tally_of self.old) (self.old.positions.items ++ record { contract = contract; net = quantity.contracts } ∷ [])) (tally_of self.new) result }
     {
-        if contracts(self.positions.as_slice()) + quantity.unsigned_abs() > 10_000 {
+        if self.held().contracts() + quantity.contracts.unsigned_abs() > 10_000 {
             return Err(Refusal::Contracts);
         }
         if self.positions.len() >= self.places {
             return Err(Refusal::AllPlacesTaken);
         }
-        self.append(contract, quantity);
+        self.append(contract, quantity.contracts);
         Ok(())
     }
 
@@ -92,10 +75,8 @@ impl<K: Kind> Book<K> {
     pub fn trade(&mut self, contract: K, quantity: i32) -> Result<(), Refusal>
         ensures { Told (trade_refusal K.means (tally_of self.old) contract quantity) (tally_of self.old) (holding (tally_of self.old) (traded K.means contract quantity self.old.positions.items)) (tally_of self.new) result }
     {
-        if quantity == 0 || quantity.unsigned_abs() > 10_000 {
-            return Err(Refusal::Quantity);
-        }
-        if !contract.fits(self.market.variation(), self.market.ceiling) {
+        let quantity = Quantity::new(quantity)?;
+        if !self.market.admits(&contract) {
             return Err(Refusal::DoesNotFit);
         }
         match find(self.positions.as_slice(), &contract) {

@@ -1,21 +1,19 @@
 // The first position whose contract does not fit a market.
 ghost use Rattle.std.specs.Prelude.{◌≡◌};
+ghost use Rattle.book.specs.Markets.{variation_of};
 ghost use Rattle.book.specs.Tallies.{first_unfit};
 
+use crate::market_in_force::MarketInForce;
 use crate::position::Position;
 use kinds::Kind;
 
 pub(crate) fn first_unfit<K: Kind>(
     positions: &[Position<K>],
-    variation: u32,
-    ceiling: u32,
+    market: &MarketInForce,
 ) -> Option<usize>
-    ensures { result ≡ first_unfit K.means variation ceiling positions.now }
+    ensures { result ≡ first_unfit K.means (variation_of market.now.numbers) market.now.numbers.ceiling positions.now }
 {
-    for (i, position) in positions.iter().enumerate() {
-        if !position.contract.fits(variation, ceiling) {
-            return Some(i);
-        }
-    }
-    None
+    positions
+        .iter()
+        .position(|position| !market.admits(&position.contract))
 }

@@ -2,6 +2,7 @@
 use crate::setting::{MARKET, call, market, number, opened, put};
 use book::{Book, Market, Places, Refusal};
 use kinds::Listed;
+use sheet::MarketNumber;
 use std::test::Fail;
 
 // The cause for which a book is not opened, or 0.
@@ -37,8 +38,7 @@ fn opening(rt: HostRuntime) -> Result<(), Fail> {
         // the market is tried before the places
         (0, (50_001, 5, 0, 1_000, 99_999), 2),
     ];
-    for case in cases {
-        let (places, numbers, expected) = case;
+    for (places, numbers, expected) in cases {
         assert_eq!(rt; refused_opening(&rt, places, market(numbers))?, expected);
     }
     Ok(())
@@ -65,8 +65,7 @@ fn trades(rt: HostRuntime) -> Result<(), Fail> {
         (put(200_000), 1, 0),
         (call(992_307), 9_999, 0),
     ];
-    for case in cases {
-        let (contract, quantity, expected) = case;
+    for (contract, quantity, expected) in cases {
         assert_eq!(rt; number(book.trade(contract, quantity)), expected);
     }
     assert_eq!(rt; book.len(), 1usize);
@@ -88,7 +87,7 @@ fn market_changes(rt: HostRuntime) -> Result<(), Fail> {
     assert_eq!(rt; book.trade(call(990_000), 1), Ok(()));
     assert_eq!(rt;
         book.change(market((0, 1, 0, 1, 1))),
-        Err(Refusal::MarketNumber(1))
+        Err(Refusal::MarketNumber(MarketNumber::Ceiling))
     );
     assert_eq!(rt;
         book.change(market((50_001, 5, 0, 1_000, 99_999))),

@@ -25,8 +25,7 @@ fn examples(rt: HostRuntime) -> Result<(), Fail> {
         (Some(390_000), 11_539_500, 387_693),
         (None, 11_539_500, 387_693),
     ];
-    for case in limiters {
-        let (limiter, centavos, price) = case;
+    for (limiter, centavos, price) in limiters {
         let mut flexible: Book<Flexible> = opened(&rt, 1, MARKET)?;
         let contract = Flexible {
             side: Side::Call,

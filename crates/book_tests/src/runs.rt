@@ -1,16 +1,16 @@
 // A run of calls from a start, and starts that are turned away.
 use crate::setting::{MARKET, call, market};
-use book::{Book, Call, Places, Refusal, Reply, Start};
+use book::{Answer, Book, Call, Places, Refusal, Reply, Start};
 use kinds::Listed;
 use std::test::Fail;
 
 // The replies of a run, as a number each: 0 for done, the cause of a refusal, or the centavos.
 fn told(reply: Reply) -> u64 {
     match reply {
-        Reply::Done => 0,
-        Reply::Refused(refusal) => u64::from(refusal.number()),
-        Reply::Minimum(centavos, _) => centavos,
-        Reply::Required(centavos) => centavos,
+        Ok(Answer::Done) => 0,
+        Ok(Answer::Minimum(centavos, _)) => centavos,
+        Ok(Answer::Required(centavos)) => centavos,
+        Err(refusal) => u64::from(refusal.number()),
     }
 }
 
@@ -29,14 +29,14 @@ fn runs(rt: HostRuntime) -> Result<(), Fail> {
         Call::Minimum,
     ];
     let expected: [u64; 9] = [0, 0, 7, 11_539_500, 11_539_500, 12, 1, 0, 0];
-    let mut replies = [Reply::Required(5); 10];
+    let mut replies = [Ok(Answer::Required(5)); 10];
     let places: Places<Listed> = Places::reserve(rt.alloc(), 2)?;
     match Book::start(places, Start::Fresh(MARKET), &calls, &mut replies) {
         Ok(book) => assert_eq!(rt; book.len(), 1usize),
         Err((refusal, _)) => return Err(Fail::new(refusal.number())),
     }
-    for i in 0..9usize {
-        assert_eq!(rt; told(replies[i]), expected[i]);
+    for (reply, value) in replies.iter().zip(&expected) {
+        assert_eq!(rt; told(*reply), *value);
     }
     assert_eq!(rt; told(replies[9]), 5u64);
     // a sheet that is refused, and too few places for replies
@@ -79,7 +79,7 @@ fn refused_start(
 #[test]
 fn starts_turned_away(rt: HostRuntime) -> Result<(), Fail> {
     let calls: [Call<Listed>; 1] = [Call::Minimum];
-    let mut none = [Reply::Done; 0];
+    let mut none = [Ok(Answer::Done); 0];
     let no_market = Start::Fresh(market((0, 1, 0, 1, 1)));
     assert_eq!(rt; refused_start(&rt, 0, no_market, &calls, &mut none)?, 1u32);
     assert_eq!(rt;

@@ -3,7 +3,7 @@ use book::{Book, Market, Places, Refusal};
 use kinds::{Kind, Listed, Side};
 use std::test::Fail;
 
-// its variation is 7,693
+// its variation is 7,693; the same five numbers as in the programs, which the tests do not stand on
 pub(crate) const MARKET: Market = Market {
     ceiling: 1_000_000,
     reference: 256_450,
@@ -57,7 +57,7 @@ pub(crate) fn opened<K: Kind>(
     }
 }
 
-// The number of the cause, or 0 where there is none.
+// The number of the cause, or 0 where there is none: the tables give expected causes as numbers.
 pub(crate) fn number(res: Result<(), Refusal>) -> u32 {
     match res {
         Ok(()) => 0,

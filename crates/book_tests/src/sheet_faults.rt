@@ -18,6 +18,16 @@ fn fault<K: Stored>(rt: &HostRuntime, sheet: &[u8]) -> Result<(u32, usize, usize
     }
 }
 
+// Each sheet with its cause, line and field; the first that is told otherwise fails.
+fn check_all<K: Stored>(rt: &HostRuntime, cases: &[(&str, u32, usize, usize)]) -> Result<(), Fail> {
+    for (sheet, cause, line, field) in cases {
+        if fault::<K>(rt, sheet.as_bytes())? != (*cause, *line, *field) {
+            return Err(Fail::new(sheet));
+        }
+    }
+    Ok(())
+}
+
 const LISTED_SHEETS: [(&str, u32, usize, usize); 36] = [
     ("market 5\n1000\n1000\n10\n1\n1\npositions 0\n", 0, 0, 0),
     (
@@ -161,16 +171,7 @@ const LISTED_SHEETS: [(&str, u32, usize, usize); 36] = [
 
 #[test]
 fn listed_sheets(rt: HostRuntime) -> Result<(), Fail> {
-    for case in LISTED_SHEETS {
-        let (sheet, cause, line, field) = case;
-        assert_eq!(rt;
-            fault::<Listed>(&rt, sheet.as_bytes())?,
-            (cause, line, field),
-            "{}",
-            sheet
-        );
-    }
-    Ok(())
+    check_all::<Listed>(&rt, &LISTED_SHEETS)
 }
 
 const FLEXIBLE_SHEETS: [(&str, u32, usize, usize); 10] = [
@@ -238,16 +239,7 @@ const FLEXIBLE_SHEETS: [(&str, u32, usize, usize); 10] = [
 
 #[test]
 fn flexible_sheets(rt: HostRuntime) -> Result<(), Fail> {
-    for case in FLEXIBLE_SHEETS {
-        let (sheet, cause, line, field) = case;
-        assert_eq!(rt;
-            fault::<Flexible>(&rt, sheet.as_bytes())?,
-            (cause, line, field),
-            "{}",
-            sheet
-        );
-    }
-    Ok(())
+    check_all::<Flexible>(&rt, &FLEXIBLE_SHEETS)
 }
 
 #[test]

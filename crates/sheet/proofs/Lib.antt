@@ -1,3 +1,4 @@
 pub mod Marks
 pub mod Shapes
-pub mod Rows
+pub mod ReadSteps
+pub mod Lengths

@@ -35,13 +35,13 @@ formed (Some s) (Some k) (Some bs) = formed_limiter s k (bytes_eq bs (45 ∷ [])
 -- the limiter that a field tells is written back
 limiter_writes : (bs : List ℕ) (t : Bool) (o : Option ℕ) (l : Option ℕ) → bytes_eq bs (45 ∷ []) ≡ t → number_of 8 bs ≡ o → cond t (Some None) (option_map (λ n. Some n) o) ≡ Some l → limiter_text l ≡ bs
 limiter_writes bs true o None p q h = sym ((bytes_eq-Decides bs (45 ∷ [])).0 p)
-limiter_writes bs true o (Some n) p q h = absurd (let z : ◌≡◌ {A = ℕ} 0 1 = cc in omega arith)
-limiter_writes bs false None l p q h = absurd (let z : ◌≡◌ {A = ℕ} 0 1 = cc in omega arith)
-limiter_writes bs false (Some n) None p q h = absurd (let z : ◌≡◌ {A = ℕ} 0 1 = cc in omega arith)
+limiter_writes bs true o (Some n) p q h = cc
+limiter_writes bs false None l p q h = cc
+limiter_writes bs false (Some n) None p q h = cc
 limiter_writes bs false (Some n) (Some m) p q h = let e : n ≡ m = cc in short_writes bs m (q ∙ ap (λ x. Some x) e)
 
 with_back : (s : Side) (k : ℕ) (l : Option (Option ℕ)) (c : Flexible) → with_limiter s k l ≡ Some c → (s ≡ c.side) × (k ≡ c.strike) × (l ≡ Some c.limiter)
-with_back s k None c h = absurd (let z : ◌≡◌ {A = ℕ} 0 1 = cc in omega arith)
+with_back s k None c h = cc
 with_back s k (Some l) c h =
     let e : record { side = s; strike = k; limiter = l } ≡ c = cc in
     (ap (λ (d : Flexible). d.side) e, ap (λ (d : Flexible). d.strike) e, ap (λ (d : Flexible). Some d.limiter) e)
@@ -52,9 +52,9 @@ pub record Told (s : Option Side) (k : Option ℕ) (l : Option (List ℕ)) (c : 
   pub limiter : l ≡ Some (limiter_text c.limiter)
 
 back : (s : Option Side) (k : Option ℕ) (l : Option (List ℕ)) (c : Flexible) → flexible_of s k l ≡ Some c → Told s k l c
-back None k l c h = absurd (let z : ◌≡◌ {A = ℕ} 0 1 = cc in omega arith)
-back (Some s) None l c h = absurd (let z : ◌≡◌ {A = ℕ} 0 1 = cc in omega arith)
-back (Some s) (Some k) None c h = absurd (let z : ◌≡◌ {A = ℕ} 0 1 = cc in omega arith)
+back None k l c h = cc
+back (Some s) None l c h = cc
+back (Some s) (Some k) None c h = cc
 back (Some s) (Some k) (Some bs) c h =
     let p = with_back s k (limiter_of bs) c h in
     record {
@@ -79,7 +79,7 @@ not_dash n h =
     (λ t.
     let e = (bytes_eq-Decides (decimal n) (45 ∷ [])).0 t in
     let d = subst (λ bs. all_ascii_digits bs ≡ true) e (digits_decimal own n (omega arith)) in
-    absurd (let z : ◌≡◌ {A = ℕ} 0 1 = cc in omega arith))
+    cc)
     (λ f. f)
     (cases_Bool (bytes_eq (decimal n) (45 ∷ [])))
 

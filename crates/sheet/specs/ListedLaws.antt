@@ -20,12 +20,12 @@ formed (Some s) (Some k) None = refl
 formed (Some s) (Some k) (Some l) = refl
 
 back : (s : Option Side) (k : Option ℕ) (l : Option (List ℕ)) (c : Listed) → listed_of s k l ≡ Some c → (s ≡ Some c.side) × (k ≡ Some c.strike) × (l ≡ None)
-back None k l c h = absurd (let z : ◌≡◌ {A = ℕ} 0 1 = cc in omega arith)
-back (Some s) None l c h = absurd (let z : ◌≡◌ {A = ℕ} 0 1 = cc in omega arith)
+back None k l c h = cc
+back (Some s) None l c h = cc
 back (Some s) (Some k) None c h =
     let e : record { side = s; strike = k } ≡ c = cc in
     (ap (λ (d : Listed). Some d.side) e, ap (λ (d : Listed). Some d.strike) e, refl)
-back (Some s) (Some k) (Some l) c h = absurd (let z : ◌≡◌ {A = ℕ} 0 1 = cc in omega arith)
+back (Some s) (Some k) (Some l) c h = cc
 
 right : (c : Listed) (v u : ℕ) → listed.fits c v u ≡ true → strike_right c.strike ≡ true
 right c v u f = (and_parts (strike_right c.strike) (side_fits c.side c.strike v u) f).0

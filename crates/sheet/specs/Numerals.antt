@@ -1,36 +1,22 @@
 -- Numbers and quantities as fields: which fields are numbers, and that reading and writing are inverse.
-use Rattle.std.specs.Prelude.{◌≡◌, ℕ, zero, suc, ◌^◌, ◌<◌, ◌≤◌, Bool, true, false, cond, ◌&&◌, List, [], ◌∷◌, length, drop, ℤ, pos, negsuc, Some, None, decimal, Option, ◌==◌, ◌≢◌, nat_eq, nat_le, slice_index, unsigned_abs, refl}
-use Rattle.std.proofs.Common.{sym, ap, ap₂, ◌∙◌, subst, ⊎_elim, arith, rules}
+use Rattle.std.specs.Prelude.{◌≡◌, ℕ, zero, suc, ◌^◌, ◌<◌, ◌≤◌, true, cond, ◌&&◌, List, [], ◌∷◌, length, ℤ, pos, negsuc, Some, None, decimal, Option, ◌==◌, nat_le, slice_index, unsigned_abs, refl}
+use Rattle.std.proofs.Common.{drop, sym, ap, ap₂, ◌∙◌, subst, ⊎_elim, arith, rules}
 use Rattle.std.proofs.Math.Nat.{pow-le-pow_right}
 use Rattle.std.specs.Fmt.{signed_decimal}
 use Rattle.std.specs.Str.{all_ascii_digits}
 use Rattle.std.proofs.lemmas.Str.Parse.{IsNumeralModel, numerals_by_fold, tells_all_ascii_digits, digits_value_short, digit_at}
 use Rattle.std.proofs.lemmas.Fmt.{decimal_digit, decimal_nonempty, length-decimal-le, first_decimal, digits_decimal, digits_value-decimal, decimal-digits_value}
-use Rattle.std.proofs.lemmas.Bool.{and_parts, and_from, le-leb, leb-true, eqb-true, eq-eqb, ne_eqb, cases_Bool, not_from_false, not-true}
+use Rattle.std.proofs.lemmas.Option.{cond_some}
+use Rattle.std.proofs.lemmas.Bool.{false≢true, and_parts, and_from, le-leb, leb-true, eqb-true, eq-eqb, ne_eqb, cases_Bool, not_from_false, not-true}
 use Rattle.sheet.specs.Decimals.{read_on, well_led, is_number, number_of, negated, unsigned, quantity_of, NumbersInverse, QuantitiesInverse}
 
 pub own : IsNumeralModel (λ ds. all_ascii_digits ds ≡ true) (read_on 0)
 own = numerals_by_fold _ tells_all_ascii_digits read_on (search rules)
 
--- A field is a number, or none.
-pub none_from : {X : Type 0} (b : Bool) (x : X) → (b ≢ true) → None ≡ cond b (Some x) None
-none_from true x h = absurd (h refl)
-none_from false x h = refl
-
-pub some_from : {X : Type 0} (b : Bool) (x : X) → b ≡ true → Some x ≡ cond b (Some x) None
-some_from b x h = sym (ap (λ t. cond t (Some x) None) h)
-
-some_then : {X : Type 0} (b : Bool) (x y : X) → cond b (Some x) None ≡ Some y → (b ≡ true) × (x ≡ y)
-some_then true x y h = (refl, cc)
-some_then false x y h = absurd (let z : ◌≡◌ {A = ℕ} 0 1 = cc in omega arith)
-
 pub well_led_facts : (bs : List ℕ) → well_led bs ≡ true → (0 < length bs) × (slice_index bs 0 ≡ 48 → length bs ≡ 1)
-well_led_facts [] h = absurd (let z : ◌≡◌ {A = ℕ} 0 1 = cc in omega arith)
+well_led_facts [] h = cc
 well_led_facts (b ∷ []) h = (omega arith, λ e. omega arith)
-well_led_facts (b ∷ c ∷ bs) h = (omega arith, λ e. absurd (let z : nat_eq b 48 ≡ false = not-true (b == 48) h in let y = eq b e in let w : ◌≡◌ {A = ℕ} 0 1 = cc in omega arith))
-  where
-    eq : (b : ℕ) → b ≡ 48 → (b == 48) ≡ true
-    eq b e = ap (λ x. nat_eq x 48) e
+well_led_facts (b ∷ c ∷ bs) h = (omega arith, λ e. absurd (false≢true (sym (not-true (b == 48) h) ∙ eq-eqb b 48 e)))
 
 pub well_led_from : (bs : List ℕ) → 0 < length bs → (slice_index bs 0 ≡ 48 → length bs ≡ 1) → well_led bs ≡ true
 well_led_from [] l h = absurd (omega arith)
@@ -61,9 +47,9 @@ numbers_inverse most some few = record {
       let d = digits_decimal own n small in
       let led = well_led_from (decimal n) (decimal_nonempty n small) (lone n small) in
       let is = number_from most (decimal n) (record { led = led; few = length-decimal-le most n some l small; digits = d }) in
-      sym (some_from (is_number most (decimal n)) (read_on 0 (decimal n)) is) ∙ ap Some (digits_value-decimal own n small);
+      ap (λ t. cond t (Some (read_on 0 (decimal n))) None) is ∙ ap Some (digits_value-decimal own n small);
   read_writes = λ bs n e.
-      let p = some_then (is_number most bs) (read_on 0 bs) n e in
+      let p = cond_some (is_number most bs) (read_on 0 bs) n e in
       let f = number_facts most bs p.0 in
       let l = well_led_facts bs f.led in
       let short = digits_value_short own bs most f.digits f.few in
@@ -74,6 +60,13 @@ numbers_inverse most some few = record {
     lone : (n : ℕ) → n < 2 ^ 64 → slice_index (decimal n) 0 ≡ 48 → length (decimal n) ≡ 1
     lone zero small h = ap length (decimal_digit 0 (omega arith))
     lone (suc n) small h = absurd (omega (arith, first_decimal (suc n) (omega arith) small))
+
+-- at each width that a sheet has
+pub short_numbers : NumbersInverse 8
+short_numbers = numbers_inverse 8 (omega arith) (omega arith)
+
+pub long_numbers : NumbersInverse 10
+long_numbers = numbers_inverse 10 (omega arith) (omega arith)
 
 -- A quantity without a minus is a number.
 plain_quantity : (bs : List ℕ) → all_ascii_digits bs ≡ true → 0 < length bs → quantity_of bs ≡ unsigned (number_of 8 bs)
@@ -88,36 +81,33 @@ minus_quantity (b ∷ bs) l e =
     ap (λ t. cond t (negated (number_of 8 bs)) (unsigned (number_of 8 (b ∷ bs)))) (eq-eqb b 45 e)
 
 unsigned_some : (o : Option ℕ) (z : ℤ) → unsigned o ≡ Some z → (n : ℕ) × (o ≡ Some n) × (z ≡ pos n)
-unsigned_some None z h = absurd (let y : ◌≡◌ {A = ℕ} 0 1 = cc in omega arith)
+unsigned_some None z h = cc
 unsigned_some (Some n) z h = (n, refl, cc)
 
 negated_some : (o : Option ℕ) (z : ℤ) → negated o ≡ Some z → (n : ℕ) × (o ≡ Some (suc n)) × (z ≡ negsuc n)
-negated_some None z h = absurd (let y : ◌≡◌ {A = ℕ} 0 1 = cc in omega arith)
-negated_some (Some zero) z h = absurd (let y : ◌≡◌ {A = ℕ} 0 1 = cc in omega arith)
+negated_some None z h = cc
+negated_some (Some zero) z h = cc
 negated_some (Some (suc n)) z h = (n, refl, cc)
 
-short : NumbersInverse 8
-short = numbers_inverse 8 (omega arith) (omega arith)
-
 quantity_writes : (bs : List ℕ) (z : ℤ) → quantity_of bs ≡ Some z → (unsigned_abs z < 10 ^ 8) × (signed_decimal z ≡ bs)
-quantity_writes [] z h = absurd (let y : ◌≡◌ {A = ℕ} 0 1 = cc in omega arith)
+quantity_writes [] z h = cc
 quantity_writes (b ∷ bs) z h =
     ⊎_elim
     (λ t.
     let p = negated_some (number_of 8 bs) z (sym (ap (λ u. cond u (negated (number_of 8 bs)) (unsigned (number_of 8 (b ∷ bs)))) t) ∙ h) in
-    let q = short.read_writes bs (suc p.0) p.1 in
+    let q = short_numbers.read_writes bs (suc p.0) p.1 in
     (subst (λ y. unsigned_abs y < 10 ^ 8) (sym p.2) q.0, ap signed_decimal p.2 ∙ ap₂ (λ c cs. c ∷ cs) (sym (eqb-true b 45 t)) q.1))
     (λ t.
     let p = unsigned_some (number_of 8 (b ∷ bs)) z (sym (ap (λ u. cond u (negated (number_of 8 bs)) (unsigned (number_of 8 (b ∷ bs)))) t) ∙ h) in
-    let q = short.read_writes (b ∷ bs) p.0 p.1 in
+    let q = short_numbers.read_writes (b ∷ bs) p.0 p.1 in
     (subst (λ y. unsigned_abs y < 10 ^ 8) (sym p.2) q.0, ap signed_decimal p.2 ∙ q.1))
     (cases_Bool (b == 45))
 
 quantity_reads : (z : ℤ) → unsigned_abs z < 10 ^ 8 → quantity_of (signed_decimal z) ≡ Some z
 quantity_reads (pos n) l =
     let small : n < 2 ^ 64 = omega arith in
-    plain_quantity (decimal n) (digits_decimal own n small) (decimal_nonempty n small) ∙ ap unsigned (short.written_reads n l)
-quantity_reads (negsuc n) l = ap negated (short.written_reads (suc n) l)
+    plain_quantity (decimal n) (digits_decimal own n small) (decimal_nonempty n small) ∙ ap unsigned (short_numbers.written_reads n l)
+quantity_reads (negsuc n) l = ap negated (short_numbers.written_reads (suc n) l)
 
 pub quantities_inverse : QuantitiesInverse
 quantities_inverse = record { written_reads = quantity_reads; read_writes = quantity_writes }

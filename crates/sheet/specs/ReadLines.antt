@@ -25,17 +25,6 @@ pub record Stayed (forms : List Form) (sheet : List ℕ) (at lines at' lines' : 
   pub at_is : at' ≡ at
   pub lines_is : lines' ≡ lines
 
--- A field holds these bytes, and tells this line and this offset.
-pub record Placed (f : Field) (bytes : List ℕ) (line offset : ℕ) : Type 0 where
-  pub bytes_are : f.bytes.now ≡ bytes
-  pub line_is : f.line ≡ line
-  pub offset_is : f.offset ≡ offset
-
--- The next line as one part of the sheet.
-abbrev pub NextLine : List Form → List ℕ → ℕ → ℕ → ℕ → ℕ → Result Field Fault → Type 0
-NextLine forms sheet at lines at' lines' (Ok f) = Passed forms sheet at lines at' lines' × Placed f (before 10 (drop at sheet)) (lines + 1) at
-NextLine forms sheet at lines at' lines' (Err e) = Stayed forms sheet at lines at' lines' e
-
 abbrev pub position_fields : PositionLine → List Field
 position_fields p = p.side ∷ p.strike ∷ (option_to_list p.limiter ++ p.quantity ∷ [])
 
@@ -64,7 +53,7 @@ sort_of (line.Head w n) = head
 sort_of (line.Number f) = number
 sort_of (line.Position p) = position
 
--- The next line with its fields.
+-- The next line of this sort.
 abbrev pub ReadLine : Sort → List Form → List ℕ → ℕ → ℕ → ℕ → ℕ → Result Line Fault → Type 0
 ReadLine sort forms sheet at lines at' lines' (Ok l) =
     (sort_of l ≡ sort) × Passed forms sheet at lines at' lines' × FieldsTold (line_fields l) (before 10 (drop at sheet)) (lines + 1) at

@@ -5,10 +5,5 @@ ghost use Rattle.sheet.specs.Cuts.{before, after};
 pub(crate) fn position_of(mark: u8, bytes: &[u8]) -> Option<usize>
     ensures { MatchOption result ((after mark bytes.now ≡ None) × (before mark bytes.now ≡ bytes.now)) (λ i. (i < length bytes.now) × (before mark bytes.now ≡ take i bytes.now) × (after mark bytes.now ≡ Some (drop (i + 1) bytes.now))) }
 {
-    for (i, b) in bytes.iter().enumerate() {
-        if *b == mark {
-            return Some(i);
-        }
-    }
-    None
+    bytes.iter().position(|b| *b == mark)
 }

@@ -2,6 +2,7 @@
 ghost use Rattle.std.specs.Prelude.{◌≡◌};
 ghost use Rattle.sheet.specs.Faults.{fault_number, fault_line, fault_layer, fault_field_of};
 
+use crate::market_number::MarketNumber;
 use kinds::ContractRefusal;
 
 #[derive(Clone, Copy, PartialEq, Debug)]
@@ -14,8 +15,8 @@ pub enum Layer {
 // What can be wrong with the numbers of a well-formed line by themselves.
 #[derive(Clone, Copy, PartialEq, Debug)]
 pub enum LineCause {
-    // which of the market's five numbers is outside its range
-    MarketNumber(u8),
+    // the market number that is outside its range
+    MarketNumber(MarketNumber),
     Contract(ContractRefusal),
     Quantity,
 }
@@ -45,6 +46,7 @@ pub enum Fault {
 }
 
 impl Fault {
+    // A method: a fault has a number, a line and a layer, and `u32::from(fault)` would not say which it gives.
     pub fn number(self) -> u32
         ensures { result ≡ fault_number self }
     {

@@ -17,10 +17,7 @@ fn read_limiter(bytes: &[u8]) -> Option<Option<u32>>
 {
     match bytes {
         [b'-'] => Some(None),
-        _ => {
-            let limiter = short_number(bytes)?;
-            Some(Some(limiter))
-        }
+        _ => short_number(bytes).map(Some),
     }
 }
 
@@ -46,10 +43,7 @@ impl Stored for Flexible {
     }
 
     fn refusal(&self) -> Option<ContractRefusal> {
-        match Flexible::new(self.side, self.strike, self.limiter) {
-            Ok(_) => None,
-            Err(refusal) => Some(refusal),
-        }
+        Flexible::new(self.side, self.strike, self.limiter).err()
     }
 
     fn write(&self) -> LineBuffer {

@@ -1,6 +1,5 @@
 // The forms that a field of a line may have.
 ghost use Rattle.std.specs.Prelude.{◌≡◌};
-ghost use Rattle.std.specs.Str.{bytes_eq};
 ghost use Rattle.sheet.specs.Forms.{word_bytes, head_number, is_form};
 
 use crate::number::{quantity, short_number};
@@ -14,6 +13,7 @@ pub enum Word {
 }
 
 impl Word {
+    // Bytes and no `&str`: a sheet's bytes may be no text.
     pub fn text(self) -> &'static [u8]
         ensures { result.now ≡ word_bytes self }
     {
@@ -49,24 +49,18 @@ pub enum Form {
     Limiter,
 }
 
-fn same(bytes: &[u8], text: &[u8]) -> bool
-    ensures { result ≡ bytes_eq bytes.now text.now }
-{
-    bytes == text
-}
-
 impl Form {
-    // Whether a field has this form.
+    // Whether a field has this form. A switch on names and no closures: which forms a line asks is data, and contracts name it.
     pub fn takes(self, bytes: &[u8]) -> bool
         ensures { result ≡ is_form self bytes.now }
     {
         match self {
-            Form::Head(word) => same(bytes, word.text()),
-            Form::Five => same(bytes, b"5"),
+            Form::Head(word) => bytes == word.text(),
+            Form::Five => bytes == b"5".as_slice(),
             Form::Number => short_number(bytes).is_some(),
             Form::Quantity => quantity(bytes).is_some(),
-            Form::Letter => same(bytes, b"C") || same(bytes, b"P"),
-            Form::Limiter => same(bytes, b"-") || short_number(bytes).is_some(),
+            Form::Letter => bytes == b"C".as_slice() || bytes == b"P".as_slice(),
+            Form::Limiter => bytes == b"-".as_slice() || short_number(bytes).is_some(),
         }
     }
 }

@@ -10,6 +10,7 @@ pub struct PositionLine<'a> {
     pub quantity: Field<'a>,
 }
 
+// One type for a line of any sort, which is what a reader of sheets asks for; that each of the reader's questions gives one sort is in its contract.
 #[derive(Clone, Copy)]
 pub enum Line<'a> {
     // a section head: its word and its number

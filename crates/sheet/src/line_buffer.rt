@@ -1,4 +1,4 @@
-// A line being written: at most 64 bytes.
+// A line being written: at most 64 bytes. An array with its length, since writing may want no memory, and a line may be copied, which the library's `ArrayVec` may not.
 ghost use Rattle.std.specs.Prelude.{◌≡◌, ◌≤◌, length};
 
 #[derive(Clone, Copy)]

@@ -35,11 +35,12 @@ impl LineBuffer {
         requires { length (line_text self.old) + length text.now ≤ 64 }
         ensures { line_text self.new ≡ line_text self.old ++ text.now }
     {
-        for b in text {
-            self.push(*b);
-        }
+        let end = self.len + text.len();
+        self.bytes[self.len..end].copy_from_slice(text);
+        self.len = end;
     }
 
+    // Not by `write!`, whose contract leaves open when it fails: a line with room for the digits always takes them.
     pub(crate) fn push_number(&mut self, n: u32)
         requires { length (line_text self.old) + length (decimal n) ≤ 64 }
         ensures { line_text self.new ≡ line_text self.old ++ decimal n }
@@ -47,7 +48,7 @@ impl LineBuffer {
         if n >= 10 {
             self.push_number(n / 10);
         }
-        self.push(48 + (n % 10) as u8);
+        self.push(b'0' + (n % 10) as u8);
     }
 
     pub(crate) fn push_quantity(&mut self, quantity: i32)
@@ -56,10 +57,8 @@ impl LineBuffer {
     {
         if quantity < 0 {
             self.push(b'-');
-            self.push_number(quantity.unsigned_abs());
-        } else {
-            self.push_number(quantity.unsigned_abs());
         }
+        self.push_number(quantity.unsigned_abs());
     }
 
     // Writes the line to the front of a buffer and replies its length; too short a buffer stays as it was.

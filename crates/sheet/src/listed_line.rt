@@ -11,7 +11,7 @@ use crate::number::short_number;
 use crate::stored::Stored;
 use kinds::{ContractRefusal, Kind, Listed, Side};
 
-// The letter of a side.
+// The letter of a side. No `From`: the side and the byte are both of other crates, and letters belong to sheets.
 pub(crate) fn letter_of(side: Side) -> u8
     ensures { result ≡ letter side }
 {
@@ -21,7 +21,7 @@ pub(crate) fn letter_of(side: Side) -> u8
     }
 }
 
-// The side that a letter tells.
+// The side that a letter tells. No `TryFrom`, for the same reason.
 pub(crate) fn read_side(bytes: &[u8]) -> Option<Side>
     ensures { result ≡ side_of bytes.now }
 {
@@ -33,6 +33,7 @@ pub(crate) fn read_side(bytes: &[u8]) -> Option<Side>
 }
 
 // The fields that every line begins with.
+#[tactic(auto, using(crate::proofs::Lengths::number_length))]
 pub(crate) fn side_and_strike(side: Side, strike: u32) -> LineBuffer
     ensures text { line_text result ≡ letter side ∷ 32 ∷ decimal strike }
     ensures short { length (line_text result) ≤ 12 }
@@ -63,10 +64,7 @@ impl Stored for Listed {
     }
 
     fn refusal(&self) -> Option<ContractRefusal> {
-        if self.strike < 1 || self.strike > 20_000_000 {
-            return Some(ContractRefusal::Strike);
-        }
-        None
+        Listed::new(self.side, self.strike).err()
     }
 
     fn write(&self) -> LineBuffer {

@@ -2,29 +2,29 @@
 ghost use Rattle.std.specs.Prelude.{◌≡◌, ◌^◌, ◌<◌, ◌≤◌, IfSome};
 ghost use Rattle.sheet.specs.Decimals.{number_of, negated, quantity_of, NumbersInverse, QuantitiesInverse};
 
-// A number of one to `most` digits, without a leading zero but for 0 itself.
+// A number of one to `most` digits, without a leading zero but for 0 itself. Not `parse`, which takes a plus and leading zeros.
 fn number(bytes: &[u8], most: usize) -> Option<u64>
     requires { most ≤ 10 }
     ensures is { result ≡ number_of most bytes.now }
     ensures small { IfSome result (λ n. n < 10 ^ most) }
 {
-    if bytes.len() == 0 || bytes.len() > most {
+    if bytes.is_empty() || bytes.len() > most {
         return None;
     }
-    if bytes[0] == b'0' && bytes.len() > 1 {
+    if let [b'0', _, ..] = bytes {
         return None;
     }
     let mut n = 0u64;
     for b in bytes {
-        if *b < b'0' || *b > b'9' {
+        if !b.is_ascii_digit() {
             return None;
         }
-        n = n * 10 + (*b - b'0') as u64;
+        n = n * 10 + u64::from(*b - b'0');
     }
     Some(n)
 }
 
-// A number of one to eight digits.
+// A number of one to eight digits. The two widths of a sheet have a name each: `number::<8>(bytes)` would say less, and no public width may pass 10.
 pub fn short_number(bytes: &[u8]) -> Option<u32>
     ensures is { result ≡ number_of 8 bytes.now }
     ensures small { IfSome result (λ n. n < 100000000) }
@@ -63,10 +63,8 @@ pub fn quantity(bytes: &[u8]) -> Option<i32>
 }
 
 // Reading and writing are inverse to each other, at each width that a sheet has.
-pub fn decimals_are_inverse() -> u8
+pub fn decimals_are_inverse()
     ensures short { NumbersInverse 8 }
     ensures long { NumbersInverse 10 }
     ensures quantities { QuantitiesInverse }
-{
-    0
-}
+{}

@@ -1,18 +1,17 @@
 // The reader: a cursor over a sheet's bytes that hands out one line after another.
-ghost use Rattle.std.specs.Prelude.{◌≡◌, ◌+◌, ◌^◌, ◌<◌, ◌≤◌, length, IfOk, if◌then◌else◌, Ok, Err, nat_eq};
-ghost use Rattle.sheet.specs.Cuts.{fields};
-ghost use Rattle.sheet.specs.ReadLines.{NextLine, ReadLine, head, number, position, number_forms};
+ghost use Rattle.std.specs.Prelude.{◌≡◌, ◌+◌, ◌≤◌, length, if◌then◌else◌, Ok, Err, nat_eq};
+ghost use Rattle.sheet.specs.LineSteps.{Begun};
+ghost use Rattle.sheet.specs.ReadLines.{ReadLine, head, number, position, number_forms};
 ghost use Rattle.sheet.specs.Forms.{head_forms};
 ghost use Rattle.sheet.specs.StoredKinds.{position_forms};
 
 use crate::cut::position_of;
 use crate::fault::Fault;
-use crate::field::Field;
 use crate::form::{Form, Word};
-use crate::line::Line;
-use crate::shape::{check_forms, good_fields};
-use crate::split::{four_fields, three_fields, two_fields};
+use crate::line::{Line, PositionLine};
+use crate::line_reader::LineReader;
 use crate::stored::Stored;
+use crate::text::Text;
 
 #[derive(Drop)]
 pub struct Reader<'a> {
@@ -41,56 +40,50 @@ impl<'a> Reader<'a> {
         self.lines + 1
     }
 
-    // The next line, whose fields have these forms; a malformed line is told, and the reader stays before it.
-    pub(crate) fn next_line(&mut self, forms: &[Form]) -> Result<Field<'a>, Fault>
-        ensures same { self.new.sheet.now ≡ self.old.sheet.now }
-        ensures told { NextLine forms.now self.old.sheet.now self.old.at self.old.lines self.new.at self.new.lines result }
-        ensures usable { IfOk result (λ f. (f.offset + length f.bytes.now < 2 ^ 63) × (length (fields f.bytes.now) ≡ length forms.now)) }
+    // The next line, before its first field.
+    fn next_line(&self) -> LineReader<'a>
+        ensures { Begun self.now.sheet.now self.now.at self.now.lines result }
     {
         let rest = &self.sheet[self.at..];
-        let line = self.lines + 1;
-        let Some(end) = position_of(b'\n', rest) else {
-            return Err(Fault::Field(
-                line,
-                good_fields(
-                    Field {
-                        bytes: rest,
-                        line,
-                        offset: self.at,
-                    },
-                    forms,
-                ) + 1,
-            ));
+        let (bytes, next) = match position_of(b'\n', rest) {
+            None => (rest, None),
+            Some(end) => (&rest[..end], Some(self.at + end + 1)),
         };
-        let text = Field {
-            bytes: &rest[0..end],
-            line,
-            offset: self.at,
-        };
-        if let Err(good) = check_forms(text, forms) {
-            return Err(Fault::Field(line, good + 1));
+        LineReader {
+            rest: Some(Text {
+                bytes,
+                offset: self.at,
+            }),
+            line: self.lines + 1,
+            field: 1,
+            next,
         }
-        self.at += end + 1;
-        self.lines = line;
-        Ok(text)
     }
+
+    // Each of these says that the sheet is the same: no type of the reader's own can, since another sheet would do as well.
 
     // A section head: its word and its number.
     pub fn head(&mut self, word: Word) -> Result<Line<'a>, Fault>
         ensures same { self.new.sheet.now ≡ self.old.sheet.now }
         ensures told { ReadLine head (head_forms word) self.old.sheet.now self.old.at self.old.lines self.new.at self.new.lines result }
     {
-        let text = self.next_line(&[Form::Head(word), word.number_form()])?;
-        let (word, number) = two_fields(text);
-        Ok(Line::Head(word, number))
+        let mut line = self.next_line();
+        let text = line.field(Form::Head(word))?;
+        let number = line.field(word.number_form())?;
+        self.at = line.end()?;
+        self.lines += 1;
+        Ok(Line::Head(text, number))
     }
 
     pub fn number(&mut self) -> Result<Line<'a>, Fault>
         ensures same { self.new.sheet.now ≡ self.old.sheet.now }
         ensures told { ReadLine number number_forms self.old.sheet.now self.old.at self.old.lines self.new.at self.new.lines result }
     {
-        let text = self.next_line(&[Form::Number])?;
-        Ok(Line::Number(text))
+        let mut line = self.next_line();
+        let number = line.field(Form::Number)?;
+        self.at = line.end()?;
+        self.lines += 1;
+        Ok(Line::Number(number))
     }
 
     // A position line of the kind K.
@@ -98,16 +91,19 @@ impl<'a> Reader<'a> {
         ensures same { self.new.sheet.now ≡ self.old.sheet.now }
         ensures told { ReadLine position (position_forms K.Stored.stored.limiter_form) self.old.sheet.now self.old.at self.old.lines self.new.at self.new.lines result }
     {
-        match K::limiter_form() {
-            None => {
-                let text = self.next_line(&[Form::Letter, Form::Number, Form::Quantity])?;
-                Ok(Line::Position(three_fields(text)))
-            }
-            Some(form) => {
-                let text = self.next_line(&[Form::Letter, Form::Number, form, Form::Quantity])?;
-                Ok(Line::Position(four_fields(text)))
-            }
-        }
+        let mut line = self.next_line();
+        let side = line.field(Form::Letter)?;
+        let strike = line.field(Form::Number)?;
+        let limiter = line.optional_field(K::limiter_form())?;
+        let quantity = line.field(Form::Quantity)?;
+        self.at = line.end()?;
+        self.lines += 1;
+        Ok(Line::Position(PositionLine {
+            side,
+            strike,
+            limiter,
+            quantity,
+        }))
     }
 
     // The end of the sheet: anything after the last line is malformed.

@@ -20,7 +20,7 @@ pub trait Stored: Kind {
     fn read(line: &PositionLine) -> Option<Self>
         ensures { result ≡ stored.read (contract_text line.now) };
 
-    // Why the contract is not made by its numbers alone.
+    // Why the contract is not made by its numbers alone. An Option, since nothing fails here: it is asked which cause a record has.
     fn refusal(&self) -> Option<ContractRefusal>
         ensures { result ≡ stored.refusal self.now };
 

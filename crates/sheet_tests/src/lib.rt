@@ -1,32 +1,16 @@
 // Tests of the sheet's text layer: every doubtful shape of a line, in one table, and lines written and read back.
 #![tactic(auto)]
 
-use kinds::{Flexible, Listed};
-use sheet::{Fault, Reader, Word};
+use sheet::{Fault, Reader};
 
-// What is asked of a line.
-#[derive(Clone, Copy)]
-pub(crate) enum Asked {
-    Head(Word),
-    Number,
-    Listed,
-    Flexible,
-    End,
-}
-
-// The line and the field of the fault in the next line, or 0 and 0 where it is good.
-pub(crate) fn fault(asked: Asked, bytes: &[u8]) -> (usize, usize) {
+// The field of the fault that a question to a reader tells of the first line, or 0 where the line is good.
+pub(crate) fn field_at_fault<F: Fn(&mut Reader) -> Option<Fault>>(ask: &F, bytes: &[u8]) -> usize
+    requires { F.IsAlwaysCallable ask.now }
+{
     let mut reader = Reader::new(bytes);
-    let told = match asked {
-        Asked::Head(word) => reader.head(word).err(),
-        Asked::Number => reader.number().err(),
-        Asked::Listed => reader.position::<Listed>().err(),
-        Asked::Flexible => reader.position::<Flexible>().err(),
-        Asked::End => reader.end().err(),
-    };
-    match told {
-        Some(Fault::Field(line, field)) => (line, field),
-        _ => (0, 0),
+    match ask(&mut reader) {
+        Some(fault) => fault.field().unwrap_or(0),
+        None => 0,
     }
 }
 

@@ -1,18 +1,23 @@
 // The tables: a line, and the field at fault in it, or 0 for a good line. All lines are the first of their bytes.
-use crate::{Asked, fault};
+use crate::field_at_fault;
 use kinds::{ContractRefusal, Flexible, Listed, Side};
 use sheet::{
-    Line, Reader, Stored, TooShort, Word, long_number, quantity, short_number, write_head,
-    write_number, write_position,
+    Fault, Line, Reader, Stored, TooShort, Word, head_line, long_number, number_line,
+    position_line, quantity, short_number,
 };
 use std::process::Abort;
 use std::test::Fail;
 
-fn check_all(rt: &impl Abort, asked: Asked, cases: &[(&str, usize)]) {
-    for case in cases {
-        let (text, expected) = *case;
-        let (_, field) = fault(asked, text.as_bytes());
-        assert_eq!(rt; field, expected, "{}", text);
+fn check_all<F: Fn(&mut Reader) -> Option<Fault>>(rt: &impl Abort, ask: F, cases: &[(&str, usize)])
+    requires { F.IsAlwaysCallable ask }
+{
+    for (text, expected) in cases {
+        assert_eq!(rt;
+            field_at_fault(&ask, text.as_bytes()),
+            *expected,
+            "{}",
+            text
+        );
     }
 }
 
@@ -20,7 +25,7 @@ fn check_all(rt: &impl Abort, asked: Asked, cases: &[(&str, usize)]) {
 fn listed_lines(rt: HostRuntime) {
     check_all(
         &rt,
-        Asked::Listed,
+        |reader: &mut Reader| reader.position::<Listed>().err(),
         &[
             ("C 500 1\n", 0),
             ("P 20000000 -10000\n", 0),
@@ -76,7 +81,7 @@ fn listed_lines(rt: HostRuntime) {
 fn flexible_lines(rt: HostRuntime) {
     check_all(
         &rt,
-        Asked::Flexible,
+        |reader: &mut Reader| reader.position::<Flexible>().err(),
         &[
             ("C 500 600 1\n", 0),
             ("P 500 0 -1\n", 0),
@@ -96,7 +101,7 @@ fn flexible_lines(rt: HostRuntime) {
 fn heads_and_numbers(rt: HostRuntime) {
     check_all(
         &rt,
-        Asked::Head(Word::Market),
+        |reader: &mut Reader| reader.head(Word::Market).err(),
         &[
             ("market 5\n", 0),
             ("market 6\n", 2),
@@ -110,7 +115,7 @@ fn heads_and_numbers(rt: HostRuntime) {
     );
     check_all(
         &rt,
-        Asked::Head(Word::Positions),
+        |reader: &mut Reader| reader.head(Word::Positions).err(),
         &[
             ("positions 0\n", 0),
             ("positions 129\n", 0),
@@ -120,10 +125,14 @@ fn heads_and_numbers(rt: HostRuntime) {
             ("1\n", 1),
         ],
     );
-    check_all(&rt, Asked::Head(Word::Scenarios), &[("scenarios 405\n", 0)]);
     check_all(
         &rt,
-        Asked::Number,
+        |reader: &mut Reader| reader.head(Word::Scenarios).err(),
+        &[("scenarios 405\n", 0)],
+    );
+    check_all(
+        &rt,
+        |reader: &mut Reader| reader.number().err(),
         &[
             ("1000000\n", 0),
             ("0\n", 0),
@@ -134,7 +143,11 @@ fn heads_and_numbers(rt: HostRuntime) {
             ("7", 2),
         ],
     );
-    check_all(&rt, Asked::End, &[("", 0), ("\n", 1), ("x", 1)]);
+    check_all(
+        &rt,
+        |reader: &mut Reader| reader.end().err(),
+        &[("", 0), ("\n", 1), ("x", 1)],
+    );
 }
 
 // Lines count from 1, offsets from 0; the second walk tells the same.
@@ -202,31 +215,31 @@ fn numbers(rt: HostRuntime) {
 fn lines_written(rt: HostRuntime) {
     let mut out = [b'x'; 24];
     assert_eq!(rt;
-        write_position(
-            &mut out,
+        position_line(
             &Listed {
                 side: Side::Call,
                 strike: 380_000,
             },
             -30,
-        ),
+        )
+        .write_to(&mut out),
         Ok(13)
     );
     assert!(rt; &out[0..14] == b"C 380000 -30\nx".as_slice());
     assert_eq!(rt;
-        write_position(
-            &mut out,
+        position_line(
             &Flexible {
                 side: Side::Put,
                 strike: 5,
                 limiter: None,
             },
             10_000,
-        ),
+        )
+        .write_to(&mut out),
         Ok(12)
     );
     assert!(rt; &out[0..13] == b"P 5 - 10000\n\n".as_slice());
-    assert_eq!(rt; write_head(&mut out, Word::Positions, 128), Ok(14));
+    assert_eq!(rt; head_line(Word::Positions, 128).write_to(&mut out), Ok(14));
     assert!(rt; &out[0..15] == b"positions 128\nx".as_slice());
 }
 
@@ -234,10 +247,10 @@ fn lines_written(rt: HostRuntime) {
 fn short_buffers(rt: HostRuntime) {
     let mut out = [b'x'; 8];
     assert_eq!(rt;
-        write_number(&mut out, 20_000_000),
+        number_line(20_000_000).write_to(&mut out),
         Err(TooShort { needed: 9 })
     );
     assert!(rt; out == [b'x'; 8]);
-    assert_eq!(rt; write_number(&mut out, 7_654_321), Ok(8));
+    assert_eq!(rt; number_line(7_654_321).write_to(&mut out), Ok(8));
     assert!(rt; &out == b"7654321\n");
 }

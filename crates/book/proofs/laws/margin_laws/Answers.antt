@@ -1,6 +1,7 @@
 use Rattle.book.proofs.CornerFormula.{corner_formula}
-use Rattle.book.proofs.KeptTallies.{trades_keep, changes_keep}
-use Rattle.book.proofs.MarginAnswers.{corners_suffice, one_margin, sold_bounds}
+use Rattle.book.proofs.KeptTallies.{trades_keep, changes_keep, trades_add_up}
+use Rattle.book.proofs.MarginAnswers.{corners_bound, corners_suffice, one_margin, sold_bounds}
+use Rattle.book.proofs.RightRuns.{runs_right, nets_add_up}
 use Rattle.book.proofs.TradeEffects.{sales_raise, purchases_lower}
 use Rattle.book.proofs.laws.margin_laws.Goals as goal
 
@@ -9,6 +10,7 @@ returns g c =
     let K = g.K.Kind.means in
     let laws = g.met.K.Kind.lawful in
     record {
+      bound = corners_bound K laws;
       corners = corners_suffice K laws;
       formula = corner_formula K laws;
       one = one_margin;
@@ -17,4 +19,7 @@ returns g c =
       sold = sold_bounds K laws;
       trades = trades_keep K;
       changes = changes_keep K;
+      adds = trades_add_up K laws;
+      runs = runs_right K laws;
+      nets = nets_add_up K laws;
     }

@@ -1,98 +1,99 @@
-use Rattle.std.proofs.Common.{◌≡◌, ◌*◌, true, ltb, Some, sym, refl, ap, ◌∙◌, subst, ap₂, arith, rules}
-use Rattle.std.proofs.lemmas.Bool.{lt-ltb}
-use Rattle.sheet.specs.declared.form.Word.TheVariants as word
-use Rattle.sheet.specs.declared.fault.BookCause.TheVariants as book_cause
-use Rattle.sheet.specs.declared.fault.Fault.TheVariants as fault
-use Rattle.sheet.specs.Forms.{head_forms}
-use Rattle.book.specs.SheetReading.{unread, after_lines, malformed, number_fault, number_at, when, MarketRead}
-use Rattle.book.proofs.ReadingLines.{handed_on, passes, stops, Gone, goes_on, fault_there, number_passed}
+use Rattle.std.proofs.Common.{◌≡◌, ℕ, List, Option, Result, sym, subst, ◌∙◌, ap₂, arith}
+use Rattle.sheet.specs.declared.fault.Fault.{Fault}
+use Rattle.sheet.specs.declared.reader.Reader.{Reader}
+use Rattle.sheet.specs.declared.market_number.MarketNumber.TheVariants as market_number
+use Rattle.book.specs.declared.market.Market.{Market}
+use Rattle.book.specs.Markets.{IsMarket}
+use Rattle.book.specs.SheetReading.{unread, after_lines, or_fault, number_fault, product_fault, market_fault, market_told, ReadOn}
+use Rattle.book.proofs.SheetFaults.{market_right, is_market}
+use Rattle.book.proofs.ReadingLines.{found_fault, Gone, starts, goes_on, tells_there, reading_stops}
 use Rattle.book.proofs.read_sheet.read_market.Goals as goal
+use Rattle.book.proofs.read_sheet.read_market.Goals.{In_ok-rate, After-read_number-3}
+
+start : (r0 : Reader) → r0.lines ≡ 0 → Gone 0 r0 0 r0 (market_fault (unread r0)) (market_fault (unread r0))
+start r0 h = starts 0 r0 (market_fault (unread r0)) h
+
+-- The reference price was read up to the ceiling that the sheet tells.
+limit_told : {X : Type 0} {u v : ℕ} {Tells : List ℕ → X → Type 0} {old new : Reader} {r : Result X Fault} → u ≡ v → ReadOn 1 (λ line. number_fault line market_number.Reference 1 v) Tells old new r → ReadOn 1 (λ line. number_fault line market_number.Reference 1 u) Tells old new r
+limit_told {Tells = Tells} {old = old} {new = new} {r = r} e t = subst (λ u. ReadOn 1 (λ line. number_fault line market_number.Reference 1 u) Tells old new r) (sym e) t
 
 pub returns-in_err-ceiling : goal.returns-in_err-ceiling
 returns-in_err-ceiling c =
-    let b0 = unread c.args.reader.now in
-    let head = c.in_ok-read_head.ensures.told in
-    let start : Gone 0 b0 b0 c.args.reader.now.lines = record { at = refl; count = c.requires } in
-    let first = fault_there (λ i x. malformed i (head_forms word.Market) x) 0 b0 b0 _ _ start head.0 in
-    let g1 = goes_on 0 b0 b0 _ _ _ start head.2 head.3 in
-    let r = handed_on c.from_residual-in_err-ceiling.result c.in_err-ceiling.field-0.0 c.from_residual-in_err-ceiling.ensures.1 in
-    let stop = fault_there (λ i x. number_fault i 1 1 20000000 x) 1 b0 _ _ _ g1 c.in_err-ceiling.ensures.told in
-    record { same = search rules; told = subst (MarketRead b0 _ _) (sym r) (passes _ _ _ first (stops _ _ _ stop)) }
+    let g1 = goes_on c.in_ok-read_head.ensures (start c.args.reader.now c.requires) in
+    reading_stops _ c.in_err-ceiling.ensures g1 c.from_residual-in_err-ceiling.ensures.1
 
 pub returns-in_err-reference : goal.returns-in_err-reference
 returns-in_err-reference c =
-    let b0 = unread c.args.reader.now in
-    let head = c.in_ok-read_head.ensures.told in
-    let start : Gone 0 b0 b0 c.args.reader.now.lines = record { at = refl; count = c.requires } in
-    let first = fault_there (λ i x. malformed i (head_forms word.Market) x) 0 b0 b0 _ _ start head.0 in
-    let g1 = goes_on 0 b0 b0 _ _ _ start head.2 head.3 in
-    let n1 = number_passed 1 1 1 20000000 _ b0 _ _ _ _ g1 c.in_ok-ceiling.ensures.told in
-    let r = handed_on c.from_residual-in_err-reference.result c.in_err-reference.field-0.0 c.from_residual-in_err-reference.ensures.1 in
-    let stop = fault_there (λ i x. number_fault i 2 1 c.in_ok-ceiling.ceiling x) 2 b0 _ _ _ n1.gone c.in_err-reference.ensures.told in
-    let limit = ap (λ u. number_fault 3 2 1 u (after_lines 2 b0)) n1.is in
-    record { same = search rules; told = subst (MarketRead b0 _ _) (sym r) (passes _ _ _ first (passes _ _ _ n1.fault (stops _ _ _ (limit ∙ stop)))) }
+    let g1 = goes_on c.in_ok-read_head.ensures (start c.args.reader.now c.requires) in
+    let told = tells_there c.in_ok-ceiling.ensures g1 in
+    reading_stops _ (limit_told told c.in_err-reference.ensures) (goes_on c.in_ok-ceiling.ensures g1) c.from_residual-in_err-reference.ensures.1
+
+-- The tests after the reference price.
+abbrev left : List ℕ → Option Fault
+left bs =
+    or_fault (number_fault 4 market_number.Factor 0 10000 (after_lines 3 bs))
+    (or_fault (number_fault 5 market_number.Size 1 1000 (after_lines 4 bs))
+    (or_fault (number_fault 6 market_number.Rate 1 99999 (after_lines 5 bs))
+    (product_fault 6 (market_told bs))))
+
+reference_read : (c : After-read_number-3) → Gone 0 c.args.reader.now 3 c.read_number-2.new.reader (market_fault (unread c.args.reader.now)) (left (unread c.args.reader.now))
+reference_read c =
+    let g1 = goes_on c.in_ok-read_head.ensures (start c.args.reader.now c.requires) in
+    let told = tells_there c.in_ok-ceiling.ensures g1 in
+    goes_on (limit_told told c.in_ok-reference.ensures) (goes_on c.in_ok-ceiling.ensures g1)
 
 pub returns-in_err-factor : goal.returns-in_err-factor
-returns-in_err-factor c =
-    let b0 = unread c.args.reader.now in
-    let head = c.in_ok-read_head.ensures.told in
-    let start : Gone 0 b0 b0 c.args.reader.now.lines = record { at = refl; count = c.requires } in
-    let first = fault_there (λ i x. malformed i (head_forms word.Market) x) 0 b0 b0 _ _ start head.0 in
-    let g1 = goes_on 0 b0 b0 _ _ _ start head.2 head.3 in
-    let n1 = number_passed 1 1 1 20000000 _ b0 _ _ _ _ g1 c.in_ok-ceiling.ensures.told in
-    let n2 = number_passed 2 2 1 c.in_ok-ceiling.ceiling _ b0 _ _ _ _ n1.gone c.in_ok-reference.ensures.told in
-    let limit = ap (λ u. number_fault 3 2 1 u (after_lines 2 b0)) n1.is in
-    let r = handed_on c.from_residual-in_err-factor.result c.in_err-factor.field-0.0 c.from_residual-in_err-factor.ensures.1 in
-    let stop = fault_there (λ i x. number_fault i 3 0 10000 x) 3 b0 _ _ _ n2.gone c.in_err-factor.ensures.told in
-    record { same = search rules; told = subst (MarketRead b0 _ _) (sym r) (passes _ _ _ first (passes _ _ _ n1.fault (passes _ _ _ (limit ∙ n2.fault) (stops _ _ _ stop)))) }
+returns-in_err-factor c = reading_stops _ c.in_err-factor.ensures (reference_read (goal.at.returns-in_err-factor c).After-read_number-3) c.from_residual-in_err-factor.ensures.1
 
 pub returns-in_err-size : goal.returns-in_err-size
 returns-in_err-size c =
-    let b0 = unread c.args.reader.now in
-    let head = c.in_ok-read_head.ensures.told in
-    let start : Gone 0 b0 b0 c.args.reader.now.lines = record { at = refl; count = c.requires } in
-    let first = fault_there (λ i x. malformed i (head_forms word.Market) x) 0 b0 b0 _ _ start head.0 in
-    let g1 = goes_on 0 b0 b0 _ _ _ start head.2 head.3 in
-    let n1 = number_passed 1 1 1 20000000 _ b0 _ _ _ _ g1 c.in_ok-ceiling.ensures.told in
-    let n2 = number_passed 2 2 1 c.in_ok-ceiling.ceiling _ b0 _ _ _ _ n1.gone c.in_ok-reference.ensures.told in
-    let n3 = number_passed 3 3 0 10000 _ b0 _ _ _ _ n2.gone c.in_ok-factor.ensures.told in
-    let limit = ap (λ u. number_fault 3 2 1 u (after_lines 2 b0)) n1.is in
-    let r = handed_on c.from_residual-in_err-size.result c.in_err-size.field-0.0 c.from_residual-in_err-size.ensures.1 in
-    let stop = fault_there (λ i x. number_fault i 4 1 1000 x) 4 b0 _ _ _ n3.gone c.in_err-size.ensures.told in
-    record { same = search rules; told = subst (MarketRead b0 _ _) (sym r) (passes _ _ _ first (passes _ _ _ n1.fault (passes _ _ _ (limit ∙ n2.fault) (passes _ _ _ n3.fault (stops _ _ _ stop))))) }
+    let g4 = goes_on c.in_ok-factor.ensures (reference_read (goal.at.returns-in_err-size c).After-read_number-3) in
+    reading_stops _ c.in_err-size.ensures g4 c.from_residual-in_err-size.ensures.1
 
 pub returns-in_err-rate : goal.returns-in_err-rate
 returns-in_err-rate c =
-    let b0 = unread c.args.reader.now in
-    let head = c.in_ok-read_head.ensures.told in
-    let start : Gone 0 b0 b0 c.args.reader.now.lines = record { at = refl; count = c.requires } in
-    let first = fault_there (λ i x. malformed i (head_forms word.Market) x) 0 b0 b0 _ _ start head.0 in
-    let g1 = goes_on 0 b0 b0 _ _ _ start head.2 head.3 in
-    let n1 = number_passed 1 1 1 20000000 _ b0 _ _ _ _ g1 c.in_ok-ceiling.ensures.told in
-    let n2 = number_passed 2 2 1 c.in_ok-ceiling.ceiling _ b0 _ _ _ _ n1.gone c.in_ok-reference.ensures.told in
-    let n3 = number_passed 3 3 0 10000 _ b0 _ _ _ _ n2.gone c.in_ok-factor.ensures.told in
-    let n4 = number_passed 4 4 1 1000 _ b0 _ _ _ _ n3.gone c.in_ok-size.ensures.told in
-    let limit = ap (λ u. number_fault 3 2 1 u (after_lines 2 b0)) n1.is in
-    let r = handed_on c.from_residual-in_err-rate.result c.in_err-rate.field-0.0 c.from_residual-in_err-rate.ensures.1 in
-    let stop = fault_there (λ i x. number_fault i 5 1 99999 x) 5 b0 _ _ _ n4.gone c.in_err-rate.ensures.told in
-    record { same = search rules; told = subst (MarketRead b0 _ _) (sym r) (passes _ _ _ first (passes _ _ _ n1.fault (passes _ _ _ (limit ∙ n2.fault) (passes _ _ _ n3.fault (passes _ _ _ n4.fault (stops _ _ _ stop)))))) }
+    let g4 = goes_on c.in_ok-factor.ensures (reference_read (goal.at.returns-in_err-rate c).After-read_number-3) in
+    reading_stops _ c.in_err-rate.ensures (goes_on c.in_ok-size.ensures g4) c.from_residual-in_err-rate.ensures.1
 
-pub returns-then-from-gt5000000000000 : goal.returns-then-from-gt5000000000000
-returns-then-from-gt5000000000000 c =
-    let b0 = unread c.args.reader.now in
-    let head = c.in_ok-read_head.ensures.told in
-    let start : Gone 0 b0 b0 c.args.reader.now.lines = record { at = refl; count = c.requires } in
-    let first = fault_there (λ i x. malformed i (head_forms word.Market) x) 0 b0 b0 _ _ start head.0 in
-    let g1 = goes_on 0 b0 b0 _ _ _ start head.2 head.3 in
-    let n1 = number_passed 1 1 1 20000000 _ b0 _ _ _ _ g1 c.in_ok-ceiling.ensures.told in
-    let n2 = number_passed 2 2 1 c.in_ok-ceiling.ceiling _ b0 _ _ _ _ n1.gone c.in_ok-reference.ensures.told in
-    let n3 = number_passed 3 3 0 10000 _ b0 _ _ _ _ n2.gone c.in_ok-factor.ensures.told in
-    let n4 = number_passed 4 4 1 1000 _ b0 _ _ _ _ n3.gone c.in_ok-size.ensures.told in
-    let n5 = number_passed 5 5 1 99999 _ b0 _ _ _ _ n4.gone c.in_ok-rate.ensures.told in
-    let limit = ap (λ u. number_fault 3 2 1 u (after_lines 2 b0)) n1.is in
-    let product : c.from.result * c.from-2.result * c.from-3.result ≡ number_at 1 b0 * number_at 4 b0 * number_at 5 b0 =
-    ap₂ (λ x y. x * y) (ap₂ (λ x y. x * y) (c.from.ensures ∙ sym n1.is) (c.from-2.ensures ∙ sym n4.is)) (c.from-3.ensures ∙ sym n5.is) in
-    let over : ltb 5000000000000 (number_at 1 b0 * number_at 4 b0 * number_at 5 b0) ≡ true = ap (ltb 5000000000000) (sym product) ∙ lt-ltb _ _ c.if-from-gt5000000000000.true in
-    let line : 6 ≡ c.line-line.result = omega (arith, n4.gone.count, c.line-line.ensures) in
-    let last = ap (λ b. when b (fault.Book 6 book_cause.Product)) over ∙ ap (λ l. Some (fault.Book l book_cause.Product)) line in
-    record { same = search rules; told = passes _ _ _ first (passes _ _ _ n1.fault (passes _ _ _ (limit ∙ n2.fault) (passes _ _ _ n3.fault (passes _ _ _ n4.fault (passes _ _ _ n5.fault last))))) }
+-- The five numbers are those that the sheet tells, and their product is left.
+abbrev numbers : In_ok-rate → Market
+numbers c = record { ceiling = c.in_ok-ceiling.ceiling; reference = c.in_ok-reference.reference; factor = c.in_ok-factor.factor; size = c.in_ok-size.size; rate = c.in_ok-rate.rate }
+
+record RateRead (c : In_ok-rate) : Type 0 where
+  pub told : market_told (unread c.args.reader.now) ≡ numbers c
+  pub gone : Gone 0 c.args.reader.now 6 c.read_number-5.new.reader (market_fault (unread c.args.reader.now)) (product_fault c.line-line.result (numbers c))
+
+rate_read : (c : In_ok-rate) → RateRead c
+rate_read c =
+    let g1 = goes_on c.in_ok-read_head.ensures (start c.args.reader.now c.requires) in
+    let n1 = tells_there c.in_ok-ceiling.ensures g1 in
+    let g2 = goes_on c.in_ok-ceiling.ensures g1 in
+    let n2 = tells_there c.in_ok-reference.ensures g2 in
+    let g3 = goes_on (limit_told n1 c.in_ok-reference.ensures) g2 in
+    let n3 = tells_there c.in_ok-factor.ensures g3 in
+    let g4 = goes_on c.in_ok-factor.ensures g3 in
+    let n4 = tells_there c.in_ok-size.ensures g4 in
+    let g5 = goes_on c.in_ok-size.ensures g4 in
+    let n5 = tells_there c.in_ok-rate.ensures g5 in
+    let g6 = goes_on c.in_ok-rate.ensures g5 in
+    let told : market_told (unread c.args.reader.now) ≡ numbers c = λ i. record { ceiling = n1 i; reference = n2 i; factor = n3 i; size = n4 i; rate = n5 i } in
+    let line : 6 ≡ c.line-line.result = omega (arith, g5.lines, c.line-line.ensures) in
+    record { told = told; gone = record { same = g6.same; at = g6.at; lines = g6.lines; is = g6.is ∙ ap₂ product_fault line told } }
+
+pub returns-in_err-check_product : goal.returns-in_err-check_product
+returns-in_err-check_product c =
+    let r = rate_read (goal.at.returns-in_err-check_product c).In_ok-rate in
+    record { same = r.gone.same; told = found_fault _ _ _ _ (r.gone.is ∙ c.in_err-check_product.ensures) c.from_residual-in_err-check_product.ensures.1 }
+
+pub invariant_of-result : goal.invariant_of-result
+invariant_of-result c =
+    let r = rate_read (goal.at.invariant_of-result c).In_ok-rate in
+    record { right = subst IsMarket r.told (is_market (unread c.args.reader.now) (market_right (unread c.args.reader.now) (r.gone.is ∙ c.in_ok-check_product.ensures.0))) }
+
+pub returns : goal.returns
+returns c =
+    let r = rate_read (goal.at.returns c).In_ok-rate in
+    record {
+      same = r.gone.same;
+      told = (r.gone.is ∙ c.in_ok-check_product.ensures.0, record { tells = r.told; at = r.gone.at; lines = omega (arith, r.gone.lines, c.requires) });
+    }

@@ -24,9 +24,6 @@ small c = small_fits (c.args.quantity *ℤ pos c.args.each) (omega (arith, size 
 times_is : (c : goal.After-from-2) → to_z w64 (of_z w64 (to_z w64 (of_z w64 c.from.result) *ℤ to_z w64 (of_z w64 c.from-2.result))) ≡ c.args.quantity *ℤ pos c.args.each
 times_is c = ap (λ z. to_z w64 (of_z w64 z)) (product_is c) ∙ to_z-of_z w64 _ (small c)
 
-pub overflow_mul-result : goal.overflow_mul-result
-overflow_mul-result c = subst (SFits w64) (sym (product_is c)) (small c)
-
 pub returns : goal.returns
 returns c = record {
   is = times_is c;

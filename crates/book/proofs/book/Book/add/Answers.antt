@@ -22,7 +22,7 @@ sum_is x q h k =
 pub overflow_add-net : goal.overflow_add-net
 overflow_add-net g c =
     let n = net_small (vec_items c.args.self.now.positions) c.args.index c.index.result.now c.requires.within c.index.ensures c.args.self.now.few in
-    omega (arith, ints, c.requires.small)
+    omega (arith, ints, c.args.quantity.most)
 
 pub invariant_of-self : goal.invariant_of-self
 invariant_of-self g c =
@@ -30,9 +30,9 @@ invariant_of-self g c =
     let ps = vec_items old.positions in
     let i = c.args.index in
     let p = c.index.result.now in
-    let q = c.args.quantity in
+    let q = c.args.quantity.contracts in
     let n = net_small ps i p c.requires.within c.index.ensures old.few in
-    let zero : p.net +ℤ q ≡ pos 0 = sym (sum_is p.net q n c.requires.small) ∙ ap (to_z w32) c.if-net-eq0.true in
+    let zero : p.net +ℤ q ≡ pos 0 = sym (sum_is p.net q n c.args.quantity.most) ∙ ap (to_z w32) c.if-net-eq0.true in
     let items = c.remove.ensures.items ∙ sym (at_zero ps i p q zero) in
     let few = subst (λ o. gross (traded_at ps i o q) ≤ 10000) (sym c.index.ensures) (c.requires.few p) in
     let kept = subst (λ qs. Kept g.K.Kind.means (holding (tally_of old) qs)) (sym items) (subst (λ o. Kept g.K.Kind.means (holding (tally_of old) (traded_at ps i o q))) (sym c.index.ensures) (c.requires.kept p)) in record {
@@ -40,7 +40,6 @@ invariant_of-self g c =
       most = old.most;
       within = omega (arith, old.within, c.remove.ensures.len);
       room = omega (arith, old.room, c.remove.ensures.capacity);
-      right = old.right;
       few = omega (arith, ap gross items, few);
       held = ap all_held items ∙ at_held ps i p q old.held;
       spare = old.spare;
@@ -67,17 +66,16 @@ invariant_of-self-else-net-eq0 g c =
     let ps = vec_items old.positions in
     let i = c.args.index in
     let p = c.index.result.now in
-    let q = c.args.quantity in
+    let q = c.args.quantity.contracts in
     let n = net_small ps i p c.requires.within c.index.ensures old.few in
-    let some = sum_some p.net q n c.requires.small c.if-net-eq0.false in
-    let items = set_is ps i p c.index_mut.result.now q _ c.requires.within c.index.ensures c.index_mut.ensures.value (sum_is p.net q n c.requires.small) some in
+    let some = sum_some p.net q n c.args.quantity.most c.if-net-eq0.false in
+    let items = set_is ps i p c.index_mut.result.now q _ c.requires.within c.index.ensures c.index_mut.ensures.value (sum_is p.net q n c.args.quantity.most) some in
     let few = subst (λ o. gross (traded_at ps i o q) ≤ 10000) (sym c.index.ensures) (c.requires.few p) in
     let kept = subst (λ qs. Kept g.K.Kind.means (holding (tally_of old) qs)) (sym items) (subst (λ o. Kept g.K.Kind.means (holding (tally_of old) (traded_at ps i o q))) (sym c.index.ensures) (c.requires.kept p)) in record {
       some = old.some;
       most = old.most;
       within = old.within;
       room = old.room;
-      right = old.right;
       few = omega (arith, ap gross items, few);
       held = ap all_held items ∙ at_held ps i p q old.held;
       spare = old.spare;
@@ -91,9 +89,9 @@ returns-else-net-eq0 g c = λ d.
     let ps = vec_items old.positions in
     let i = c.args.index in
     let p = c.index.result.now in
-    let q = c.args.quantity in
+    let q = c.args.quantity.contracts in
     let n = net_small ps i p c.requires.within c.index.ensures old.few in
-    let some = sum_some p.net q n c.requires.small c.if-net-eq0.false in
-    let items = set_is ps i p c.index_mut.result.now q _ c.requires.within c.index.ensures c.index_mut.ensures.value (sum_is p.net q n c.requires.small) some in
+    let some = sum_some p.net q n c.args.quantity.most c.if-net-eq0.false in
+    let items = set_is ps i p c.index_mut.result.now q _ c.requires.within c.index.ensures c.index_mut.ensures.value (sum_is p.net q n c.args.quantity.most) some in
     let same = c.index.ensures ∙ get_or_default ps i p d c.requires.within in
-    ap (λ xs. record { places = old.places; market = old.market; positions = xs }) (items ∙ ap (λ o. traded_at ps i o q) same)
+    ap (λ xs. record { places = old.places; market = old.market.numbers; positions = xs }) (items ∙ ap (λ o. traded_at ps i o q) same)

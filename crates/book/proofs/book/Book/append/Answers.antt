@@ -17,7 +17,6 @@ invariant_of-self g c =
       most = old.most;
       within = omega (arith, c.requires.room, c.push_reserved.ensures.len);
       room = search rules;
-      right = old.right;
       few = omega (arith, ap gross items, gross_append ps (x ∷ []), c.requires.few);
       held = ap all_held items ∙ held_append ps (x ∷ []) old.held (and_from (leb 1 (nat_abs c.args.quantity)) true (le-leb 1 (nat_abs c.args.quantity) c.requires.some) refl);
       spare = old.spare;

@@ -1,4 +1,5 @@
-use Rattle.std.proofs.Common.{vec_items, is_some, sym, ap, ◌∙◌, ap₂}
+use Rattle.std.proofs.Common.{vec_items, sym, ap, ◌∙◌}
+use Rattle.book.specs.Markets.{variation_of}
 use Rattle.book.specs.Tallies.{first_unfit}
 use Rattle.book.proofs.KeptTallies.{all_fit}
 use Rattle.book.proofs.book.Book.change.Goals as goal
@@ -7,14 +8,13 @@ pub invariant_of-self : goal.invariant_of-self
 invariant_of-self g c =
     let K = g.K.Kind.means in
     let old = c.args.self.now in
-    let m = c.args.market in
-    let none = ap₂ (λ v ps. first_unfit K v m.ceiling ps) (sym c.variation.ensures) (sym c.as_slice.ensures.value) ∙ sym c.first_unfit.ensures ∙ c.in_default-first_unfit.is in
+    let m = c.in_ok-market.market.numbers in
+    let none = ap (first_unfit K (variation_of m) m.ceiling) (sym c.as_slice.ensures.value) ∙ sym c.first_unfit.ensures ∙ c.in_default.is in
     record {
       some = old.some;
       most = old.most;
       within = old.within;
       room = old.room;
-      right = ap is_some (sym c.refusal.ensures ∙ c.in_default.is);
       few = old.few;
       held = old.held;
       spare = old.spare;

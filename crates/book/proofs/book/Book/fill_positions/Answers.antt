@@ -1,89 +1,66 @@
-use Rattle.std.proofs.Common.{◌≡◌, ℕ, suc, ◌+◌, ◌-◌, cond, [], ◌∷◌, ◌++◌, length, nat_abs, is_some, None, vec_items, sym, refl, ap, ◌∙◌, subst, ap₂, arith}
-use Rattle.std.specs.Option.{option_to_list}
-use Rattle.sheet.specs.Cuts.{after}
+use Rattle.std.proofs.Common.{◌≡◌, ℕ, List, ◌∷◌, ◌++◌, [], length, ℤ, nat_abs, sym, ap, ◌∙◌, subst, arith}
+use Rattle.book.specs.declared.market.Market.{Market}
+use Rattle.book.specs.declared.position.Position.{Position}
 use Rattle.book.specs.Losses.{gross}
-use Rattle.book.specs.SheetReading.{unread, past, after_lines, position_told, positions_told, positions_fault}
-use Rattle.book.specs.Tallies.{Kept, tally_of, holding}
-use Rattle.book.proofs.FinePositions.{fine_push}
-use Rattle.book.proofs.ReadingLines.{after_more, told_more}
-use Rattle.book.proofs.PositionFaults.{good_line, well_told, own_some, own_most, over_few, told_most}
+use Rattle.book.specs.SheetReading.{unread, positions_told}
+use Rattle.book.specs.Tallies.{Tally, Kept, holding}
+use Rattle.book.proofs.FinePositions.{fine_from, fine_push}
+use Rattle.book.proofs.ReadingLines.{as_read, reads_well}
+use Rattle.book.proofs.PositionFaults.{told_most, none_passed, next_line, more, position_passes, position_good}
 use Rattle.book.proofs.ValueBounds.{same_net}
 use Rattle.book.proofs.book.Book.fill_positions.Goals as goal
-use Rattle.book.proofs.book.Book.fill_positions.Goals.{in-Ok, in_default}
+
+-- A tally with a position more.
+one_more : {C : Type 0} {t : Tally C} {places : ℕ} {m : Market} {ps : List (Position C)} (p : Position C) {z : ℤ} → t ≡ record { places = places; market = m; positions = ps } → z ≡ p.net → holding t (t.positions ++ record { contract = p.contract; net = z } ∷ []) ≡ record { places = places; market = m; positions = ps ++ p ∷ [] }
+one_more p e n = λ i. holding (e i) ((e i).positions ++ record { contract = p.contract; net = n i } ∷ [])
 
 pub loop-init : goal.loop-init
-loop-init g c =
-    let left : c.args.count - 0 ≡ c.args.count = omega arith in (
-      omega arith,
-      refl,
-      ap (λ n. positions_fault g.K.Kind.means g.K.Stored.stored c.args.market n (suc c.args.reader.now.lines) [] (unread c.args.reader.now)) left ∙ c.requires.checked,
-      ap (λ ps. record { places = c.args.self.now.places; market = c.args.market; positions = ps }) c.clear.ensures.items,
-    )
+loop-init g c = record {
+  passed = none_passed g.K.Kind.means g.K.Stored.stored c.args.market.numbers c.args.count c.args.reader.now;
+  tally = ap (λ ps. record { places = c.args.self.now.places; market = c.args.market.numbers; positions = ps }) c.clear.ensures.items;
+}
+
+pub unwrap-position-requires : goal.unwrap-position-requires
+unwrap-position-requires g c =
+    let line = next_line g.K.Kind.means g.K.Stored.stored c.args.market.numbers c.args.count _ _ _ c.loop-test.true c.loop.invariant.passed in
+    reads_well _ _ c.read_position.ensures line c.requires.checked
 
 pub append-requires : goal.append-requires
 append-requires g c =
     let K = g.K.Kind.means in
     let s = g.K.Stored.stored in
-    let m = c.args.market in
-    let b0 = unread c.args.reader.now in
-    let i = c.loop.counter in
-    let n = c.args.count - (i + 1) in
-    let line = suc c.loop.reader.lines in
-    let above = positions_told s i b0 in
-    let bs = unread c.loop.reader in
-    let p = c.in-Ok.position in
-    let left : c.args.count - i ≡ suc n = omega (arith, c.loop-test.true) in
-    let good = good_line K s m n line above bs p c.in-Ok.ensures.told.1 (sym (ap (λ k. positions_fault K s m k line above bs) left) ∙ c.loop.invariant.2) in
-    let net = same_net p.net (own_most K s m line p good.own) in
-    let items : vec_items c.loop.self.positions ≡ above = ap (λ t. t.positions) c.loop.invariant.3 in
+    let m = c.args.market.numbers in
+    let p = c.unwrap-position.result in
+    let tally = c.loop.invariant.tally in
+    let above = positions_told s c.loop.counter (unread c.args.reader.now) in
+    let t = as_read c.unwrap-position.ensures c.read_position.ensures in
+    let fine = fine_from K s m _ above p (position_good K s m c.args.count _ _ _ c.loop-test.true c.loop.invariant.passed _ p t c.requires.checked) in
+    let net = same_net p.net fine.most in
     record {
-      room = omega (arith, c.loop.self.positions.ok.0, ap length items, told_most s i b0, c.loop-test.true, c.requires.room, ap (λ t. t.places) c.loop.invariant.3);
-      some = omega (arith, ap nat_abs net, own_some K s m line p good.own);
-      few = omega (arith, ap nat_abs net, ap gross items, over_few K line above p good.over);
+      room = omega (arith, c.loop.self.positions.ok.0, ap (λ x. length x.positions) tally, told_most s c.loop.counter (unread c.args.reader.now), c.loop-test.true, c.requires.room, ap (λ x. x.places) tally);
+      some = omega (arith, ap nat_abs net, fine.some);
+      few = omega (arith, ap nat_abs net, ap (λ x. gross x.positions) tally, fine.few);
       kept =
-          let old = subst (Kept K) c.loop.invariant.3 (record { fitting = c.loop.self.fitting; distinct = c.loop.self.distinct }) in
-          let new = fine_push K s m line c.args.self.now.places above p good.own good.over old in
-          let at = subst (λ t. Kept K (holding t (t.positions ++ p ∷ []))) (sym c.loop.invariant.3) new in
-          subst (λ z. Kept K (holding (tally_of c.loop.self) (vec_items c.loop.self.positions ++ record { contract = p.contract; net = z } ∷ []))) (sym net) at;
+          let old = subst (Kept K) tally (record { fitting = c.loop.self.fitting; distinct = c.loop.self.distinct }) in
+          subst (Kept K) (sym (one_more p tally net)) (fine_push K s m c.args.self.now.places above p fine old);
     }
 
 pub loop-preserved : goal.loop-preserved
 loop-preserved g c =
     let K = g.K.Kind.means in
     let s = g.K.Stored.stored in
-    let m = c.args.market in
-    let b0 = unread c.args.reader.now in
-    let i = c.loop.counter in
-    let n = c.args.count - (i + 1) in
-    let line = suc c.loop.reader.lines in
-    let above = positions_told s i b0 in
-    let bs = unread c.loop.reader in
-    let left : c.args.count - i ≡ suc n = omega (arith, c.loop-test.true) in
-    let no : positions_fault K s m (suc n) line above bs ≡ None = sym (ap (λ k. positions_fault K s m k line above bs) left) ∙ c.loop.invariant.2 in
-    elim c.match-read_position.branch [
-      | in-Ok w ↦
-          let p = w.in-Ok.position in
-          let t = w.in-Ok.ensures.told in
-          let good = good_line K s m n line above bs p t.1 no in
-          let net = same_net p.net (own_most K s m line p good.own) in
-          let items : vec_items c.loop.self.positions ≡ above = ap (λ x. x.positions) c.loop.invariant.3 in
-          let more : positions_told s (i + 1) b0 ≡ above ++ p ∷ [] = ap (λ k. positions_told s k b0) (let e : i + 1 ≡ suc i = omega arith in e) ∙ told_more s i b0 ∙ ap (λ b. above ++ option_to_list (position_told s b)) (sym c.loop.invariant.1) ∙ ap (λ o. above ++ option_to_list o) t.1 in
-          let on : unread c.read_position.new.reader ≡ after_lines (i + 1) b0 = t.2 ∙ ap (λ b. past (after 10 b)) c.loop.invariant.1 ∙ sym (after_more i b0) ∙ ap (λ k. after_lines k b0) (let e : suc i ≡ i + 1 = omega arith in e) in
-          let rest : positions_fault K s m n (suc c.read_position.new.reader.lines) (positions_told s (i + 1) b0) (unread c.read_position.new.reader) ≡ None =
-          ap (λ ps. positions_fault K s m n (suc c.read_position.new.reader.lines) ps (unread c.read_position.new.reader)) more ∙ ap₂ (λ l b. positions_fault K s m n (suc l) (above ++ p ∷ []) b) t.3 t.2 ∙ good.below in
-          let held : tally_of c.match-read_position.self ≡ record { places = c.args.self.now.places; market = m; positions = above ++ p ∷ [] } =
-          ap tally_of w.self-is ∙ w.append.ensures
-          ∙ ap₂ (λ ps z. record { places = c.loop.self.places; market = c.loop.self.market; positions = ps ++ record { contract = p.contract; net = z } ∷ [] }) items net
-          ∙ ap (λ x. record { places = x.places; market = x.market; positions = above ++ p ∷ [] }) c.loop.invariant.3 in (
-            omega (arith, c.loop-test.true),
-            on,
-            rest,
-            held ∙ ap (λ ps. record { places = c.args.self.now.places; market = m; positions = ps }) (sym more),
-          )
-      | in_default w ↦ absurd (let z : ◌≡◌ {A = ℕ} 0 1 = ap (λ o. cond (is_some o) 1 0) (sym (well_told K s m n line above bs no) ∙ w.in_default.ensures.told) in omega arith)
-    ]
+    let m = c.args.market.numbers in
+    let p = c.unwrap-position.result in
+    let t = as_read c.unwrap-position.ensures c.read_position.ensures in
+    let good = position_good K s m c.args.count _ _ _ c.loop-test.true c.loop.invariant.passed _ p t c.requires.checked in
+    let net = same_net p.net (fine_from K s m _ _ p good).most in
+    let ps = more K s m c.args.count _ _ _ c.loop-test.true c.loop.invariant.passed _ p t in
+    record {
+      passed = position_passes K s m c.args.count _ _ _ c.loop-test.true c.loop.invariant.passed _ p t good;
+      tally = c.append.ensures ∙ one_more p c.loop.invariant.tally net ∙ ap (λ qs. record { places = c.args.self.now.places; market = m; positions = qs }) (sym ps);
+    }
 
 pub returns : goal.returns
 returns g c =
-    let e : c.loop.counter ≡ c.args.count = omega (arith, c.loop-test.false, c.loop.invariant.0) in
-    c.loop.invariant.3 ∙ ap (λ n. record { places = c.args.self.now.places; market = c.args.market; positions = positions_told g.K.Stored.stored n (unread c.args.reader.now) }) e
+    let e : c.loop.counter ≡ c.args.count = omega (arith, c.loop-test.false, c.loop.auto.counter-end) in
+    c.loop.invariant.tally ∙ ap (λ n. record { places = c.args.self.now.places; market = c.args.market.numbers; positions = positions_told g.K.Stored.stored n (unread c.args.reader.now) }) e

@@ -2,35 +2,28 @@ use Rattle.std.proofs.Common.{◌≡◌, ◌*◌, max, cond, not, eqb, ltb, leng
 use Rattle.std.specs.Option.{option_map}
 use Rattle.std.proofs.lemmas.Bool.{or_from, le-ltb, eq-eqb}
 use Rattle.book.specs.declared.refusal.Refusal.TheVariants.{Scenarios, TableLength, ScenarioValue}
-use Rattle.book.specs.Losses.{loss, gross}
+use Rattle.book.specs.Losses.{loss}
 use Rattle.book.specs.Markets.{variation_of, price_unit, value_unit}
 use Rattle.book.specs.Prices.{Least, CoversBoth}
 use Rattle.book.specs.Scenarios.{scenario_losses, greatest, first_above}
 use Rattle.book.proofs.LawfulRuns.{valid}
-use Rattle.book.proofs.MarketFacts.{right, unit_low, stressed_most}
 use Rattle.book.proofs.ScenarioCovers.{both_least, none_above}
 use Rattle.book.proofs.book.Book.required.Goals as goal
 
-pub scenario_margin-stressed-requires : goal.scenario_margin-stressed-requires
-scenario_margin-stressed-requires g c =
-    let old = c.args.self.now in
-    let m = old.market in
-    let r = right m old.right in
-    let v = c.as_slice.ensures.value in
-    let u = c.value_unit.ensures in
+pub stressed-stressed-requires : goal.stressed-stressed-requires
+stressed-stressed-requires g c =
+    let h = c.held.ensures in
+    let m = c.args.self.now.market.numbers in
     record {
-      few = omega (arith, ap gross v, old.few);
-      unit = omega (arith, u, unit_low m r);
-      low = omega (arith, ap (λ n. 10000 * (100 * m.ceiling) * n) u, stressed_most m r);
-      values = none_above (100 * m.ceiling) c.args.table.now (sym c.first_above.ensures ∙ c.in_default.is);
-      whole = c.if-table-scenarios.false ∙ ap (λ n. c.args.scenarios * n) (c.len.ensures ∙ sym c.as_slice.ensures.len);
+      values = λ k. omega (arith, none_above (100 * m.ceiling) c.args.table.now (sym c.first_above.ensures ∙ c.in_default.is) k, ap (λ n. n.numbers.ceiling) h.1);
+      whole = c.if-table-scenarios.false ∙ ap (λ n. c.args.scenarios * n) (c.len.ensures ∙ c.args.self.now.positions.ok.0 ∙ ap length (sym h.0));
     }
 
 pub returns : goal.returns
 returns g c =
     let K = g.K.Kind.means in
     let old = c.args.self.now in
-    let m = old.market in
+    let m = old.market.numbers in
     let ps = vec_items old.positions in
     let s = c.args.scenarios in
     let table = c.args.table.now in
@@ -44,7 +37,7 @@ returns g c =
         refusal,
         λ k.
             let least = c.minimum-minimum.ensures.covers in
-            let stressed = c.scenario_margin-stressed.ensures ∙ ap₂ (λ u qs. greatest 0 (scenario_losses u qs s table)) c.value_unit.ensures c.as_slice.ensures.value in
+            let stressed = c.stressed-stressed.ensures ∙ ap₂ (λ n qs. greatest 0 (scenario_losses (value_unit n.numbers) qs s table)) c.held.ensures.1 c.held.ensures.0 in
             let n = c.max.ensures ∙ ap (max c.minimum-minimum.result.0) stressed in
             subst (Least (CoversBoth (loss K (variation_of m) (price_unit m) ps) (scenario_losses (value_unit m) ps s table))) (sym n)
             (both_least (loss K (variation_of m) (price_unit m) ps) (scenario_losses (value_unit m) ps s table) c.minimum-minimum.result.0 least),

@@ -12,16 +12,16 @@ pub returns-then-contracts-unsigned_abs-gt10000 : goal.returns-then-contracts-un
 returns-then-contracts-unsigned_abs-gt10000 g c =
     let old = c.args.self.now in
     let ps = vec_items old.positions in
-    let x : Position g.row.K.Denot = record { contract = c.args.contract; net = c.args.quantity } in
-    let n = c.contracts.ensures ∙ ap gross c.as_slice.ensures.value in
-    let q = c.unsigned_abs.ensures.value ∙ ap nat_abs (to_z-of_z w32 c.args.quantity c.ranges.quantity) in
+    let x : Position g.row.K.Denot = record { contract = c.args.contract; net = c.args.quantity.contracts } in
+    let n = c.contracts.ensures ∙ ap gross c.held.ensures.0 in
+    let q = c.unsigned_abs.ensures.value ∙ ap nat_abs (to_z-of_z w32 c.args.quantity.contracts (omega (arith, c.args.quantity.most))) in
     (too_many_contracts (tally_of old) (ps ++ x ∷ []) (omega (arith, gross_append ps (x ∷ []), n, q, c.if-contracts-unsigned_abs-gt10000.true)), refl)
 
 pub returns-then-len-self : goal.returns-then-len-self
 returns-then-len-self g c =
     let old = c.args.self.now in
     let ps = vec_items old.positions in
-    let x : Position g.row.K.Denot = record { contract = c.args.contract; net = c.args.quantity } in
-    let n = c.contracts.ensures ∙ ap gross c.as_slice.ensures.value in
-    let q = c.unsigned_abs.ensures.value ∙ ap nat_abs (to_z-of_z w32 c.args.quantity c.ranges.quantity) in
+    let x : Position g.row.K.Denot = record { contract = c.args.contract; net = c.args.quantity.contracts } in
+    let n = c.contracts.ensures ∙ ap gross c.held.ensures.0 in
+    let q = c.unsigned_abs.ensures.value ∙ ap nat_abs (to_z-of_z w32 c.args.quantity.contracts (omega (arith, c.args.quantity.most))) in
     (no_place (tally_of old) (ps ++ x ∷ []) (omega (arith, gross_append ps (x ∷ []), n, q, c.if-contracts-unsigned_abs-gt10000.false)) (omega (arith, length_push ps x, old.positions.ok.0, c.len.ensures, c.if-len-self.true)), refl)

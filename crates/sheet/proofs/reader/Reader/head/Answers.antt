@@ -1,15 +1,23 @@
-use Rattle.std.proofs.Common.{[], ◌∷◌, refl, subst}
-use Rattle.sheet.specs.declared.form.Form.TheVariants as form
-use Rattle.sheet.specs.ReadLines.{Passed}
-use Rattle.sheet.proofs.Rows.{told_at}
+use Rattle.std.proofs.Common.{[], sym, refl}
+use Rattle.sheet.proofs.ReadSteps.{none_read, steps, passed, stayed, unended, handed_on}
 use Rattle.sheet.proofs.reader.Reader.head.Goals as goal
 
-pub returns : goal.returns
-returns c =
-    let t = c.in_ok-text.ensures in
-    let old = c.args.self.now in
-    let new = c.next_line.new.self in
-    record {
-      same = t.same;
-      told = (refl, subst (λ f. Passed (form.Head c.args.word ∷ f ∷ []) old.sheet.now old.at old.lines new.at new.lines) c.number_form.ensures t.told.0, told_at (c.two_fields.result.0 ∷ c.two_fields.result.1 ∷ []) c.in_ok-text.text _ _ _ t.told.1 c.two_fields.ensures);
-    }
+pub returns-in_err-text-clause-told : goal.returns-in_err-text-clause-told
+returns-in_err-text-clause-told c =
+    handed_on _ _ _ _ _ _ c.in_err-text.field-0.0 c.from_residual.ensures.1 (stayed c.next_line-line.ensures _ (none_read _) c.in_err-text.ensures)
+
+pub returns-in_err-number-clause-told : goal.returns-in_err-number-clause-told
+returns-in_err-number-clause-told c =
+    let second = rw c.number_form.ensures at c.in_err-number.ensures in
+    handed_on _ _ _ _ _ _ c.in_err-number.field-0.0 c.from_residual-in_err-number.ensures.1 (stayed c.next_line-line.ensures [] c.in_ok-text.ensures second)
+
+pub returns-in_err-self-clause-told : goal.returns-in_err-self-clause-told
+returns-in_err-self-clause-told c =
+    let second = rw c.number_form.ensures at c.in_ok-number.ensures in
+    handed_on _ _ _ _ _ _ c.in_err-self.field-0.0 c.from_residual-in_err-self.ensures.1 (unended c.next_line-line.ensures _ (steps c.in_ok-text.ensures second) (sym c.in_err-self.ensures))
+
+pub returns-clause-told : goal.returns-clause-told
+returns-clause-told c =
+    let second = rw c.number_form.ensures at c.in_ok-number.ensures in
+    let p = passed c.next_line-line.ensures _ (steps c.in_ok-text.ensures second) (sym c.in_ok-self.ensures) in
+    (refl, p.0, p.1)
