@@ -1,9 +1,8 @@
 // A portfolio's table: a row for each position, a column for each price, the totals and the lowest of them.
-ghost use Rattle.std.specs.Prelude.{◌≤◌, length};
 
-use crate::amount::hundredths;
-use crate::portfolio::{Holding, lowest_total, total_at};
+use crate::totals::{lowest_total, total_at};
 use kinds::Side;
+use portfolios::{Holding, Portfolio, hundredths};
 use std::io;
 
 fn print_amount(rt: &HostRuntime, amount: i128) -> io::Result<()> {
@@ -13,6 +12,7 @@ fn print_amount(rt: &HostRuntime, amount: i128) -> io::Result<()> {
 
 fn print_row(rt: &HostRuntime, holding: &Holding, prices: &[u32]) -> io::Result<()> {
     let name = holding.name;
+    // not the letters of a sheet, which the circular does not know
     let side = match holding.option.side {
         Side::Call => "C",
         Side::Put => "P",
@@ -26,29 +26,23 @@ fn print_row(rt: &HostRuntime, holding: &Holding, prices: &[u32]) -> io::Result<
     println!(rt; "")
 }
 
-pub(crate) fn print(
-    rt: &HostRuntime,
-    title: &str,
-    holdings: &[Holding],
-    prices: &[u32],
-) -> io::Result<()>
-    requires { length holdings.now ≤ 128 }
-{
+pub(crate) fn print(rt: &HostRuntime, portfolio: &Portfolio, prices: &[u32]) -> io::Result<()> {
+    let title = portfolio.title;
     println!(rt; "{title}")?;
     print!(rt; "{:<14}{:>10}{:>10}", "Option", "Strike", "Quantity")?;
     for price in prices {
         print_amount(rt, i128::from(*price))?;
     }
     println!(rt; "")?;
-    for holding in holdings {
+    for holding in portfolio.holdings {
         print_row(rt, holding, prices)?;
     }
     print!(rt; "{:<34}", "Total")?;
     for price in prices {
-        print_amount(rt, total_at(holdings, *price))?;
+        print_amount(rt, total_at(portfolio, *price))?;
     }
     println!(rt; "")?;
     print!(rt; "{:<34}", "Lowest total")?;
-    print_amount(rt, lowest_total(holdings, prices))?;
+    print_amount(rt, lowest_total(portfolio, prices))?;
     println!(rt; "")
 }

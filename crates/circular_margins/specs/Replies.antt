@@ -10,7 +10,7 @@ use Rattle.book.specs.Runs.{loss_of}
 use Rattle.book.specs.Scenarios.{scenario_losses}
 use Rattle.book.specs.Trades.{traded}
 use Rattle.book.specs.Tallies.{Tally}
-use Rattle.circular_margins.specs.declared.portfolio.Holding.{Holding}
+use Rattle.portfolios.specs.declared.holding.Holding.{Holding}
 use Rattle.circular_margins.specs.declared.margins.Margins.{Margins}
 
 -- The circular's market: reference 2,564.50, factor 3 %, size 50, rate one to one, under the ceiling 10,000.00.

@@ -1,46 +1,11 @@
 // The margins that a book replies for the three example portfolios of BM&F circular 134/2006-DG, beside those that the circular prints.
 #![tactic(auto)]
 
-mod amount;
 mod margins;
-mod portfolio;
 
-use kinds::{Listed, Side};
 use margins::Margins;
-use portfolio::Holding;
+use portfolios::{PORTFOLIO_1, PORTFOLIO_2, PORTFOLIO_3};
 use std::io;
-
-const JA03: Holding = Holding {
-    option: Listed {
-        side: Side::Call,
-        strike: 375_000,
-    },
-    quantity: 60,
-};
-
-const JA04: Holding = Holding {
-    option: Listed {
-        side: Side::Call,
-        strike: 380_000,
-    },
-    quantity: -30,
-};
-
-const JA05: Holding = Holding {
-    option: Listed {
-        side: Side::Call,
-        strike: 385_000,
-    },
-    quantity: -30,
-};
-
-const JA99: Holding = Holding {
-    option: Listed {
-        side: Side::Put,
-        strike: 200_000,
-    },
-    quantity: -30,
-};
 
 // What one contract of each row is worth in the portfolio's worst scenario, in ten-thousandths of a point. The circular prints only the portfolio's
 // total there (tables 4.6, 4.9 and 4.12), and these values give it to the centavo.
@@ -77,12 +42,9 @@ const PRINTED_3: Margins = Margins {
 };
 
 fn main(rt: HostRuntime) -> io::Result<()> {
-    println!(rt; "Portfolio 1: one sold call")?;
-    margins::print(&rt, &[JA04], &WORST_1, &PRINTED_1)?;
+    margins::print(&rt, &PORTFOLIO_1, &WORST_1, &PRINTED_1)?;
     println!(rt; "")?;
-    println!(rt; "Portfolio 2: portfolio 1, one more sold call and a sold put")?;
-    margins::print(&rt, &[JA04, JA05, JA99], &WORST_2, &PRINTED_2)?;
+    margins::print(&rt, &PORTFOLIO_2, &WORST_2, &PRINTED_2)?;
     println!(rt; "")?;
-    println!(rt; "Portfolio 3: portfolio 2 and bought calls that cover its sold calls")?;
-    margins::print(&rt, &[JA03, JA04, JA05, JA99], &WORST_3, &PRINTED_3)
+    margins::print(&rt, &PORTFOLIO_3, &WORST_3, &PRINTED_3)
 }

@@ -1,15 +1,14 @@
 // Both margins of a portfolio: what a book of its trades replies, beside what the circular prints.
 ghost use Rattle.std.specs.Prelude.{◌≡◌, IfOk};
-ghost use Rattle.kinds.specs.ListedOptions.{listed};
 ghost use Rattle.book.specs.Tallies.{tally_of};
 ghost use Rattle.circular_margins.specs.Replies.{portfolio, Right};
 
-use crate::amount::hundredths;
-use crate::portfolio::Holding;
 use book::{Book, Market, Places, Refusal};
 use kinds::Listed;
+use portfolios::{Holding, Portfolio, hundredths};
 use std::io;
 
+// The same five numbers as in `speed`, which may choose others: each program's edit turns its own.
 // reference 2,564.50, factor 3 %, size 50, rate one to one; the ceiling 10,000.00 is ours, above all prices of the tables
 const MARKET: Market = Market {
     ceiling: 1_000_000,
@@ -31,10 +30,7 @@ pub struct Margins {
 fn opened(places: Places<Listed>, holdings: &[Holding]) -> Result<Book<Listed>, Refusal>
     ensures { IfOk result (λ b. tally_of b ≡ portfolio places.count holdings.now) }
 {
-    let mut book = match Book::open(places, MARKET) {
-        Ok(book) => book,
-        Err((refusal, _)) => return Err(refusal),
-    };
+    let mut book = Book::open(places, MARKET).map_err(|(refusal, _)| refusal)?;
     for holding in holdings {
         book.trade(holding.option, holding.quantity)?;
     }
@@ -84,10 +80,13 @@ fn print_replies(rt: &HostRuntime, ours: &Margins, circular: &Margins) -> io::Re
 // A refusal is printed by its number.
 pub(crate) fn print(
     rt: &HostRuntime,
-    holdings: &[Holding],
+    portfolio: &Portfolio,
     worst: &[u32],
     circular: &Margins,
 ) -> io::Result<()> {
+    let title = portfolio.title;
+    println!(rt; "{title}")?;
+    let holdings = portfolio.holdings;
     let places = Places::reserve(rt.alloc(), holdings.len())?;
     match asked(places, holdings, worst) {
         Ok(ours) => print_replies(rt, &ours, circular),

@@ -18,4 +18,4 @@ replied K t scenarios table (Ok m) n k h g =
     let low = a.least m b.holds in
     let high = b.least n a.holds in
     omega arith
-replied K t scenarios table (Err e) n k h g = absurd (let z : ◌≡◌ {A = ℕ} 0 1 = cc in omega arith)
+replied K t scenarios table (Err e) n k h g = cc

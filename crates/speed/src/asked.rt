@@ -6,6 +6,8 @@ ghost use Rattle.speed.specs.Checksums.{SumsMinimums, SumsRequireds};
 use book::Book;
 use kinds::Listed;
 
+// Two loops, one for each question. One loop over a closure was tried: it proves, but what the closures reply was not found in their callers' proofs.
+
 // The sum in 64 bits.
 fn plus(sum: u64, reply: u64) -> u64
     ensures { result ≡ (sum + reply) % 2 ^ 64 }
@@ -18,7 +20,7 @@ pub(crate) fn minimums(book: &Book<Listed>, times: u32) -> u64
     ensures { SumsMinimums (tally_of book.now) times result }
 {
     let mut sum = 0;
-    for i in 0..times {
+    for _ in 0..times {
         let (centavos, price) = book.minimum();
         sum = plus(sum, plus(centavos, u64::from(price.unwrap_or(0))));
     }
@@ -30,7 +32,7 @@ pub(crate) fn requireds(book: &Book<Listed>, scenarios: usize, values: &[u32], t
     ensures { SumsRequireds (tally_of book.now) scenarios values.now times result }
 {
     let mut sum = 0;
-    for i in 0..times {
+    for _ in 0..times {
         sum = plus(sum, book.required(scenarios, values).unwrap_or(0));
     }
     sum

@@ -7,6 +7,7 @@ ghost use Rattle.speed.specs.Examples.{market, option_at, quantity_at, example};
 use book::{Book, Market, Places, Refusal};
 use kinds::{Listed, Side};
 
+// The same five numbers as in `circular_margins`, which may choose others: each program's edit turns its own.
 const MARKET: Market = Market {
     ceiling: 1_000_000,
     reference: 256_450,
@@ -48,10 +49,8 @@ pub(crate) fn opened(places: Places<Listed>, positions: usize) -> Result<Book<Li
     requires { positions ≤ 128 }
     ensures { IfOk result (λ b. ((tally_of b).positions ≡ example positions) × ((tally_of b).market ≡ market)) }
 {
-    let mut book = match Book::open(places, MARKET) {
-        Ok(book) => book,
-        Err((refusal, _)) => return Err(refusal),
-    };
+    let mut book = Book::open(places, MARKET).map_err(|(refusal, _)| refusal)?;
+    // by number: i says which option and how many
     for i in 0..positions {
         book.trade(option(i), quantity(i))?;
     }

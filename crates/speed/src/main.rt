@@ -38,6 +38,7 @@ fn print_requireds(
     println!(rt; ", asked {times} times more: checksum {sum}")
 }
 
+// By its number, as the programs do: a line each, and no `Display` that says more.
 fn print_refusal(rt: &HostRuntime, refusal: Refusal) -> io::Result<()> {
     let number = refusal.number();
     println!(rt; "refused {number}")

@@ -18,11 +18,9 @@ pub struct Sizes {
 fn within(word: &str, low: usize, high: usize) -> Option<usize>
     ensures { IfSome result (λ n. (low ≤ n) × (n ≤ high)) }
 {
-    let n = word.parse::<usize>().ok()?;
-    if n < low || n > high {
-        return None;
-    }
-    Some(n)
+    word.parse::<usize>()
+        .ok()
+        .filter(|n| (low..=high).contains(n))
 }
 
 impl Sizes {

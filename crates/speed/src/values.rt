@@ -17,9 +17,5 @@ pub(crate) fn table(heap: Global, len: usize) -> Result<Vec<u32>, AllocError>
     requires { len ≤ 51840 }
     ensures { IfOk result (λ v. (vec_len v ≡ len) × ((k : ℕ) → k < len → slice_index v.items k ≡ value_at k)) }
 {
-    let mut values = Vec::with_capacity(heap, len)?;
-    for place in 0..len {
-        values.push(value(place))?;
-    }
-    Ok(values)
+    (0..len).map(value).collect(heap)
 }

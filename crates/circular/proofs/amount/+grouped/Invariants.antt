@@ -1,4 +1,0 @@
-use Rattle.circular.proofs.amount.+grouped.Given as goal
-
-abbrev pub decreases-grouped : goal.decreases-grouped
-decreases-grouped l = l.n

@@ -1,6 +1,0 @@
-use Rattle.std.proofs.Common.{◌≡◌, take}
-use Rattle.circular.specs.Totals.{lowest}
-use Rattle.circular.proofs.portfolio.lowest_total.Given as goal
-
-abbrev pub invariant-loop-price : goal.invariant-loop-price
-invariant-loop-price l = l.low ≡ lowest l.holdings (take l.price-index l.prices)

@@ -1,0 +1,4 @@
+use Rattle.portfolios.proofs.amount.+grouped.Given as goal
+
+abbrev pub decreases-grouped : goal.decreases-grouped
+decreases-grouped l = l.n
