@@ -1,5 +1,6 @@
 -- Where a test first passes in a list.
-use Rattle.std.proofs.Common.{◌≡◌, ℕ, suc, ◌+◌, ◌<◌, ◌≤◌, Bool, true, false, cond, not, List, [], ◌∷◌, length, get_or, take, Some, None, sym, ap, ◌∙◌, subst, ⊎_elim, arith}
+use Rattle.std.proofs.Common.{◌≡◌, ℕ, suc, ◌+◌, ◌<◌, ◌≤◌, Bool, true, false, cond, not, List, [], ◌∷◌, length, get_or, take, Some, None, Option, sym, refl, ap, ◌∙◌, subst, ⊎_elim, arith}
+use Rattle.std.specs.Option.{option_map}
 use Rattle.std.specs.List.{AllByRecursion, position, position_or_len}
 use Rattle.std.proofs.lemmas.Bool.{cases_Bool, ltb-true, ltb-false}
 use Rattle.std.proofs.lemmas.Option.{cond_some}
@@ -44,3 +45,8 @@ module _ {X : Type 0} (p : X → Bool) where
     none_before = subst (λ n. AllByRecursion (λ x. p x ≡ false) (take n xs)) (cond_some _ _ i h).1 (passed_by xs);
     passes = λ d. (position-Some p xs i d h).1;
   }
+
+-- A place that is counted from another one on.
+pub shifted : (i : ℕ) (o : Option ℕ) → option_map (λ n. i + n) (option_map suc o) ≡ option_map (λ n. i + 1 + n) o
+shifted i None = refl
+shifted i (Some n) = ap (λ k. Some k) (omega arith)

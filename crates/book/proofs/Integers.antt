@@ -1,5 +1,5 @@
 -- Products of integers by a natural number, which omega does not multiply out.
-use Rattle.std.proofs.Common.{◌≡◌, ℕ, zero, suc, ◌+◌, ◌*◌, ◌<◌, ℤ, pos, negsuc, ◌+ℤ◌, ◌*ℤ◌, neg_ℤ, ◌≤ℤ◌, ◌<ℤ◌, ap, ◌∙◌, mul-le-mul_right, add-mul, mul-add, arith}
+use Rattle.std.proofs.Common.{◌≡◌, ℕ, zero, suc, ◌+◌, ◌*◌, ◌<◌, ℤ, pos, negsuc, ◌+ℤ◌, ◌*ℤ◌, neg_ℤ, nat_abs, ◌≤ℤ◌, ◌<ℤ◌, refl, ap, ◌∙◌, mul-le-mul_right, add-mul, mul-add, arith}
 use borrow.Author.Differences.{ints, up, down, le_out, lt_out, sum_is_lem}
 
 -- an integer times a sum of naturals
@@ -30,3 +30,7 @@ pub neg_times : (z : ℤ) (s : ℕ) → neg_ℤ (z *ℤ pos s) ≡ neg_ℤ z *�
 neg_times (pos zero) s = omega (arith, ints)
 neg_times (pos (suc n)) s = omega (arith, ints)
 neg_times (negsuc n) s = omega (arith, ints)
+
+pub times_size : (z : ℤ) (s : ℕ) → nat_abs (z *ℤ pos s) ≡ nat_abs z * s
+times_size (pos n) s = refl
+times_size (negsuc n) s = omega (arith, ints)

@@ -3,7 +3,7 @@ use Rattle.std.proofs.Common.{◌≡◌, ℕ, ◌*◌, ◌≤◌, Bool, true, fa
 use Rattle.std.proofs.lemmas.Bool.{or_parts, ltb-false}
 use Rattle.book.specs.declared.market.Market.{Market}
 use Rattle.book.specs.declared.market_in_force.MarketInForce.{MarketInForce}
-use Rattle.book.specs.Markets.{outside, market_refusal, IsMarket, Right, price_unit}
+use Rattle.book.specs.Markets.{outside, market_refusal, IsMarket, Right, variation_of, price_unit}
 
 none_past : {X : Type 0} (b : Bool) (x : X) (o : Option X) → cond b (Some x) o ≡ None → (b ≡ false) × (o ≡ None)
 none_past true x o h = cc
@@ -68,3 +68,11 @@ stressed_most m r =
     let a : 10000 * (100 * m.ceiling) ≡ 1000000 * m.ceiling = omega arith in
     let b = ap (λ n. n * (m.size * m.rate)) a ∙ mul_assoc 1000000 m.ceiling (m.size * m.rate) in
     omega (arith, b, c)
+
+pub variation_low : (m : Market) → Right m → variation_of m ≤ 20000000
+variation_low m r =
+    let k : m.reference ≤ 20000000 = omega (arith, r.reference_low, r.ceiling_low) in
+    omega (arith, mul-le-mul k r.factor_low)
+
+pub unit_low : (m : Market) → Right m → m.size * m.rate ≤ 1000 * 99999
+unit_low m r = mul-le-mul r.size_low r.rate_low

@@ -1,18 +1,20 @@
 -- Position lines one after another: one without a fault leaves the answer to those below it, and then to the end of the sheet.
-use Rattle.std.proofs.Common.{◌≡◌, ℕ, zero, suc, ◌+◌, ◌-◌, ◌<◌, ◌≤◌, Bool, true, false, cond, not, eqb, List, [], ◌∷◌, ◌++◌, length, drop, Some, None, Ok, Err, Option, Result, sym, refl, ap, ◌∙◌, subst, ap₂, append_assoc, append-nil, ⊎_elim, arith, length-drop}
+use Rattle.std.proofs.Common.{◌≡◌, ℕ, zero, suc, ◌+◌, ◌-◌, ◌<◌, ◌≤◌, Bool, true, false, cond, not, eqb, ltb, List, [], ◌∷◌, ◌++◌, length, drop, nat_abs, Some, None, Ok, Err, Option, Result, sym, refl, ap, ◌∙◌, subst, ap₂, append_assoc, append-nil, ⊎_elim, arith, length-drop}
 use Rattle.std.specs.Option.{option_to_list}
-use Rattle.std.proofs.lemmas.Bool.{cases_lt, eq-eqb, ne_eqb}
+use Rattle.std.proofs.lemmas.Bool.{cases_lt, eq-eqb, ne_eqb, or_parts, ltb-false}
 use Rattle.kinds.specs.Kinds.{Meaning}
 use Rattle.sheet.specs.declared.fault.Fault.{Fault}
 use Rattle.sheet.specs.declared.fault.Fault.TheVariants as fault
+use Rattle.sheet.specs.declared.fault.LineCause.TheVariants as line_cause
 use Rattle.sheet.specs.declared.reader.Reader.{Reader}
 use Rattle.sheet.specs.Cuts.{after}
 use Rattle.sheet.specs.StoredKinds.{Storing, position_forms}
 use Rattle.book.specs.declared.market.Market.{Market}
 use Rattle.book.specs.declared.position.Position.{Position}
 use Rattle.book.specs.Losses.{gross}
-use Rattle.book.specs.SheetReading.{contracts_of, joined_fault, past, after_lines, unread, or_fault, malformed, when, position_told, positions_told, position_fault, positions_fault, ReadOn, Checked}
-use Rattle.book.proofs.SheetFaults.{or_both}
+use Rattle.book.specs.Markets.{outside}
+use Rattle.book.specs.SheetReading.{contracts_of, joined_fault, past, after_lines, unread, or_fault, malformed, when, contract_fault, own_fault, position_told, positions_told, position_fault, positions_fault, ReadOn, Checked}
+use Rattle.book.proofs.SheetFaults.{or_both, when_not}
 use Rattle.book.proofs.ReadingLines.{passes, stops, after_after, Gone, goes_on, tells_there}
 
 pub told_most : {C : Type 0} (s : Storing C) (n : ℕ) (bs : List ℕ) → length (positions_told s n bs) ≤ n
@@ -111,3 +113,18 @@ pub end_checked : (r : Reader) (x : Result (Unit {0}) Fault) → x ≡ cond (eqb
 end_checked r x e =
     let f = fault.Field (r.lines + 1) 1 in
     subst (Checked (when (not (eqb (length (unread r)) 0)) f)) (sym (e ∙ ap (λ b. cond b (Ok tt) (Err f)) (same_end r.at r.sheet.now r.inside.0))) (ends (eqb (length (unread r)) 0) f)
+
+module _ {C : Type 0} (K : Meaning C) where
+  -- What the tests say of the quantity.
+  module _ (s : Storing C) (m : Market) (line : ℕ) (p : Position C) (h : own_fault K s m line p ≡ None) where
+    own_size : (ltb (nat_abs p.net) 1 ≡ false) × (ltb 10000 (nat_abs p.net) ≡ false)
+    own_size =
+        let a = or_both (contract_fault line (s.refusal p.contract)) _ h in
+        let b = or_both (when (outside (nat_abs p.net) 1 10000) (fault.Line line line_cause.Quantity)) _ a.1 in
+        or_parts (ltb (nat_abs p.net) 1) (ltb 10000 (nat_abs p.net)) (when_not _ _ b.0)
+
+    pub own_some : 1 ≤ nat_abs p.net
+    own_some = ltb-false (nat_abs p.net) 1 own_size.0
+
+    pub own_most : nat_abs p.net ≤ 10000
+    own_most = ltb-false 10000 (nat_abs p.net) own_size.1

@@ -1,6 +1,7 @@
 -- The least number of centavos that covers a loss at every whole price.
-use Rattle.std.proofs.Common.{ℕ, ◌*◌, ◌≤◌, ℤ, pos, negsuc, ◌≤ℤ◌, arith}
+use Rattle.std.proofs.Common.{◌≡◌, ℕ, ◌*◌, ◌≤◌, max, Bool, true, false, cond, ℤ, pos, negsuc, ◌≤ℤ◌, int_lt, refl, arith}
 use borrow.Author.Differences.{ints}
+use Rattle.std.specs.Int.{int_max}
 use Rattle.book.specs.Prices.{Worst, Covers, Least, centavos}
 
 pub centavos_cover : (z : ℤ) → z ≤ℤ pos (centavos z * 1000000)
@@ -10,6 +11,17 @@ centavos_cover (negsuc n) = omega (arith, ints)
 pub centavos_least : (z : ℤ) (m : ℕ) → z ≤ℤ pos (m * 1000000) → centavos z ≤ m
 centavos_least (pos n) m h = omega (arith, ints)
 centavos_least (negsuc n) m h = omega (arith, ints)
+
+centavos_more : (a b : ℤ) → a ≤ℤ b → centavos a ≤ centavos b
+centavos_more a b h = centavos_least a (centavos b) (let up = centavos_cover b in omega (arith, ints))
+
+-- rounding up the greater of two losses gives the greater of the two rounded up
+pub centavos_max : (a b : ℤ) → centavos (int_max a b) ≡ max (centavos a) (centavos b)
+centavos_max a b = by (int_lt b a) refl
+  where
+    by : (t : Bool) → int_lt b a ≡ t → centavos (cond t a b) ≡ max (centavos a) (centavos b)
+    by true e = let l = centavos_more b a (omega (arith, ints)) in omega (arith, l)
+    by false e = let l = centavos_more a b (omega (arith, ints)) in omega (arith, l)
 
 pub worst_covers : (f : ℕ → ℤ) (p : ℕ) → Worst f p → Least (Covers f) (centavos (f p))
 worst_covers f p w = record {

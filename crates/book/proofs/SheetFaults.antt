@@ -3,6 +3,7 @@ use Rattle.std.proofs.Common.{◌≡◌, ℕ, ◌*◌, ◌≤◌, Bool, true, fa
 use Rattle.std.proofs.lemmas.Bool.{or_from, le-ltb}
 use Rattle.sheet.specs.declared.market_number.MarketNumber.{MarketNumber}
 use Rattle.sheet.specs.declared.market_number.MarketNumber.TheVariants as market_number
+use Rattle.sheet.specs.MarketNumbers.{market_place}
 use Rattle.sheet.specs.declared.fault.Fault.{Fault}
 use Rattle.sheet.specs.declared.fault.Fault.TheVariants as fault
 use Rattle.sheet.specs.declared.fault.LineCause.TheVariants as line_cause
@@ -52,7 +53,7 @@ number_right line which low high bs h =
 
 pub number_none : (line : ℕ) (which : MarketNumber) (low high x : ℕ) (bs rest : List ℕ) → Tells number_forms 0 x bs rest → low ≤ x → x ≤ high → number_fault line which low high bs ≡ None
 number_none line which low high x bs rest t a b =
-    ap₂ or_fault (from_well line number_forms bs t.well) (not_when _ (fault.Line line (line_cause.MarketNumber which)) (ap (λ y. outside y low high) t.tells ∙ inside x low high a b))
+    ap₂ or_fault (from_well line number_forms bs t.well) (not_when _ (fault.Line line (line_cause.MarketNumber (market_place which))) (ap (λ y. outside y low high) t.tells ∙ inside x low high a b))
 
 pub record MarketRight (bs : List ℕ) : Type 0 where
   pub head : well_formed (head_forms word.Market) bs ≡ true

@@ -1,7 +1,7 @@
 -- The list of positions after a trade: where the contract is held, and where it is not.
 use Rattle.std.proofs.Common.{◌≡◌, ℕ, zero, suc, ◌+◌, ◌<◌, ◌≤◌, true, false, cond, leb, List, [], ◌∷◌, ◌++◌, length, get_or, take, drop, set, ℤ, pos, negsuc, ◌+ℤ◌, nat_abs, sym, refl, ap, ◌∙◌, arith}
 use Rattle.std.specs.List.{remove, AllByRecursion}
-use Rattle.std.proofs.lemmas.List.{set_split}
+use Rattle.std.proofs.lemmas.List.{set_split, length-append, length-take, length-drop}
 use Rattle.std.proofs.lemmas.Bool.{and_parts, and_from, le-leb}
 use Rattle.kinds.specs.Kinds.{Meaning}
 use Rattle.book.specs.declared.position.Position.{Position}
@@ -81,3 +81,13 @@ module _ {C : Type 0} where
 
   pub at_some : (ps : List (Position C)) (i : ℕ) (p : Position C) (q : ℤ) → i < length ps → 1 ≤ nat_abs (p.net +ℤ q) → traded_at ps i p q ≡ set ps i (record { contract = p.contract; net = p.net +ℤ q })
   at_some ps i p q l h = ap (λ qs. take i ps ++ qs) (put_some p.contract (p.net +ℤ q) (drop (suc i) ps) h) ∙ sym (set_split ps i (record { contract = p.contract; net = p.net +ℤ q }) l)
+
+  length_put : (c : C) (z : ℤ) (ps : List (Position C)) → length (put c z ps) ≤ suc (length ps)
+  length_put c (pos zero) ps = omega arith
+  length_put c (pos (suc n)) ps = omega arith
+  length_put c (negsuc n) ps = omega arith
+
+  -- a trade in a held contract needs no place
+  pub length_at : (ps : List (Position C)) (i : ℕ) (p : Position C) (q : ℤ) → i < length ps → length (traded_at ps i p q) ≤ length ps
+  length_at ps i p q l =
+      omega (arith, length-append (take i ps) (put p.contract (p.net +ℤ q) (drop (suc i) ps)), length-take i ps, length_put p.contract (p.net +ℤ q) (drop (suc i) ps), length-drop (suc i) ps)

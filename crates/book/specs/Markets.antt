@@ -1,6 +1,5 @@
 -- The market: the ranges of its numbers, its variation and its units.
 use Rattle.std.specs.Prelude.{◌≡◌, ℕ, ◌*◌, ◌/◌, ◌≤◌, Bool, false, cond, ◌||◌, is_some, Some, None, Option, nat_lt}
-use Rattle.sheet.specs.declared.market_number.MarketNumber.TheVariants.{Ceiling, Reference, Factor, Size, Rate}
 use Rattle.book.specs.declared.market.Market.{Market}
 use Rattle.book.specs.declared.refusal.Refusal.{Refusal}
 use Rattle.book.specs.declared.refusal.Refusal.TheVariants.{MarketNumber, Product}
@@ -11,11 +10,11 @@ outside n low high = nat_lt n low || nat_lt high n
 -- The first cause for which the five numbers are no market, if there is one.
 abbrev pub market_refusal : Market → Option Refusal
 market_refusal m =
-    cond (outside m.ceiling 1 20000000) (Some (MarketNumber Ceiling))
-    (cond (outside m.reference 1 m.ceiling) (Some (MarketNumber Reference))
-    (cond (outside m.factor 0 10000) (Some (MarketNumber Factor))
-    (cond (outside m.size 1 1000) (Some (MarketNumber Size))
-    (cond (outside m.rate 1 99999) (Some (MarketNumber Rate))
+    cond (outside m.ceiling 1 20000000) (Some (MarketNumber 1))
+    (cond (outside m.reference 1 m.ceiling) (Some (MarketNumber 2))
+    (cond (outside m.factor 0 10000) (Some (MarketNumber 3))
+    (cond (outside m.size 1 1000) (Some (MarketNumber 4))
+    (cond (outside m.rate 1 99999) (Some (MarketNumber 5))
     (cond (nat_lt 5000000000000 (m.ceiling * m.size * m.rate)) (Some Product)
     None)))))
 

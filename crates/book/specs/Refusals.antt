@@ -1,13 +1,12 @@
 -- Every cause for turning a call away, with its number and what is returned beside it.
 use Rattle.std.specs.Prelude.{ℕ, List, [], ◌∷◌}
 use Rattle.kinds.specs.ContractRefusals.{contract_refusal_number}
-use Rattle.sheet.specs.MarketNumbers.{market_place}
 use Rattle.sheet.specs.Faults.{fault_number, fault_values}
 use Rattle.book.specs.declared.refusal.Refusal.{Refusal}
 use Rattle.book.specs.declared.refusal.Refusal.TheVariants.{MarketNumber, Product, Places, Contract, Quantity, DoesNotFit, Contracts, AllPlacesTaken, HeldDoesNotFit, Scenarios, TableLength, ScenarioValue, NoPosition, AboveCeiling, Sheet, Buffer}
 
 abbrev pub refusal_number : Refusal → ℕ
-refusal_number (MarketNumber which) = 1
+refusal_number (MarketNumber n) = 1
 refusal_number Product = 2
 refusal_number Places = 3
 refusal_number (Contract r) = contract_refusal_number r
@@ -25,7 +24,7 @@ refusal_number (Sheet f) = fault_number f
 refusal_number (Buffer n) = 17
 
 abbrev pub refusal_values : Refusal → List ℕ
-refusal_values (MarketNumber which) = market_place which ∷ []
+refusal_values (MarketNumber n) = n ∷ []
 refusal_values Product = []
 refusal_values Places = []
 refusal_values (Contract r) = []

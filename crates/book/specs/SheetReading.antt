@@ -8,6 +8,7 @@ use Rattle.sheet.specs.declared.form.Form.{Form}
 use Rattle.sheet.specs.declared.form.Word.TheVariants as word
 use Rattle.sheet.specs.declared.market_number.MarketNumber.{MarketNumber}
 use Rattle.sheet.specs.declared.market_number.MarketNumber.TheVariants as market_number
+use Rattle.sheet.specs.MarketNumbers.{market_place}
 use Rattle.sheet.specs.declared.fault.LineCause.TheVariants as line_cause
 use Rattle.sheet.specs.declared.fault.BookCause.TheVariants as book_cause
 use Rattle.sheet.specs.declared.fault.Fault.{Fault}
@@ -94,7 +95,7 @@ when b f = cond b (Some f) None
 -- A line with one of the market's numbers.
 abbrev pub number_fault : ℕ → MarketNumber → ℕ → ℕ → List ℕ → Option Fault
 number_fault line which low high bs =
-    or_fault (malformed line number_forms bs) (when (outside (read_on 0 (field_at 0 bs)) low high) (fault.Line line (line_cause.MarketNumber which)))
+    or_fault (malformed line number_forms bs) (when (outside (read_on 0 (field_at 0 bs)) low high) (fault.Line line (line_cause.MarketNumber (market_place which))))
 
 -- Ceiling × size × rate is too large.
 abbrev pub product_fault : ℕ → Market → Option Fault

@@ -1,5 +1,6 @@
 // The ranges of a market's numbers, its variation and its units.
 ghost use Rattle.std.specs.Prelude.{◌≡◌, ◌*◌, nat_lt, true, false, None, Some, MatchResult};
+ghost use Rattle.sheet.specs.MarketNumbers.{market_place};
 ghost use Rattle.book.specs.Markets.{outside, market_refusal, variation_of, price_unit, value_unit};
 
 use crate::market::Market;
@@ -17,10 +18,10 @@ pub(crate) fn outside(n: u32, low: u32, high: u32) -> bool
 
 // One of the market's numbers, which lies from low to high.
 fn within(which: MarketNumber, n: u32, low: u32, high: u32) -> Result<(), Refusal>
-    ensures { MatchResult result (λ _. outside n low high ≡ false) (λ e. (outside n low high ≡ true) × (e ≡ Refusal.MarketNumber which)) }
+    ensures { MatchResult result (λ _. outside n low high ≡ false) (λ e. (outside n low high ≡ true) × (e ≡ Refusal.MarketNumber (market_place which))) }
 {
     if outside(n, low, high) {
-        return Err(Refusal::MarketNumber(which));
+        return Err(Refusal::MarketNumber(u8::from(which)));
     }
     Ok(())
 }

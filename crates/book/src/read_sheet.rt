@@ -22,7 +22,7 @@ fn read_number(reader: &mut Reader, which: MarketNumber, low: u32, high: u32) ->
     };
     let n = short_number(field.bytes).unwrap();
     if outside(n, low, high) {
-        return Err(Fault::Line(line, LineCause::MarketNumber(which)));
+        return Err(Fault::Line(line, LineCause::MarketNumber(u8::from(which))));
     }
     Ok(n)
 }

@@ -6,12 +6,12 @@ ghost use Rattle.book.specs.Refusals.{refusal_number, refusal_values};
 ghost use Rattle.book.specs.declared.refusal.Refusal.TheVariants.{Sheet};
 
 use kinds::ContractRefusal;
-use sheet::{Fault, LineCause, MarketNumber};
+use sheet::{Fault, LineCause};
 
 #[derive(Clone, Copy, PartialEq, Debug)]
 pub enum Refusal {
-    // the first of the market's numbers that is outside its range
-    MarketNumber(MarketNumber),
+    // which of the market's five numbers is the first outside its range, from 1
+    MarketNumber(u8),
     // ceiling × size × rate is too large
     Product,
     // places not 1 to 128

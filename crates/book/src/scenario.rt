@@ -28,20 +28,20 @@ impl<K: Kind> Held<'_, K> {
         sum
     }
 
-    // The greatest of the scenarios' losses, rounded up to a centavo.
+    // The greatest of the scenarios' losses, rounded up to a centavo: once, since rounding takes longer than a short row.
     pub(crate) fn stressed(&self, scenarios: usize, table: &[u32]) -> u64
         requires values { (k : ℕ) → slice_index table.now k ≤ 100 * self.now.market.numbers.ceiling }
         requires whole { length table.now ≡ scenarios * length self.now.positions.now }
         ensures { result ≡ greatest 0 (scenario_losses (value_unit self.now.market.numbers) self.now.positions.now scenarios table.now) }
     {
         let unit = self.market.value_unit();
-        let mut most: u64 = 0;
+        let mut most: i64 = 0;
         let mut rest = table;
         for _ in 0..scenarios {
             let (row, after) = rest.split_at(self.positions.len());
-            most = most.max(centavos(exact_loss(self.row_value(row), unit)));
+            most = most.max(exact_loss(self.row_value(row), unit));
             rest = after;
         }
-        most
+        centavos(most)
     }
 }

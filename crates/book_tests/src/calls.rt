@@ -2,7 +2,6 @@
 use crate::setting::{MARKET, call, market, number, opened, put};
 use book::{Book, Market, Places, Refusal};
 use kinds::Listed;
-use sheet::MarketNumber;
 use std::test::Fail;
 
 // The cause for which a book is not opened, or 0.
@@ -87,7 +86,7 @@ fn market_changes(rt: HostRuntime) -> Result<(), Fail> {
     assert_eq!(rt; book.trade(call(990_000), 1), Ok(()));
     assert_eq!(rt;
         book.change(market((0, 1, 0, 1, 1))),
-        Err(Refusal::MarketNumber(MarketNumber::Ceiling))
+        Err(Refusal::MarketNumber(1))
     );
     assert_eq!(rt;
         book.change(market((50_001, 5, 0, 1_000, 99_999))),

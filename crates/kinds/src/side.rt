@@ -1,6 +1,6 @@
 // Calls and puts: what the two sides of an option have in common in every kind.
 ghost use Rattle.std.specs.Prelude.{◌≡◌, min};
-ghost use Rattle.kinds.specs.Sides.{pays, moved, side_fits};
+ghost use Rattle.kinds.specs.Sides.{pays, moved, side_fits, side_same};
 
 #[derive(Clone, Copy, PartialEq, Eq, Debug)]
 pub enum Side {
@@ -38,5 +38,11 @@ impl Side {
             Side::Call => strike <= ceiling && variation <= ceiling - strike,
             Side::Put => variation <= strike && strike <= ceiling,
         }
+    }
+
+    pub fn same(self, other: Side) -> bool
+        ensures { result ≡ side_same self other }
+    {
+        self == other
     }
 }

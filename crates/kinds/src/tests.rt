@@ -174,6 +174,8 @@ fn refusals(rt: HostRuntime) {
 #[test]
 fn sameness(rt: HostRuntime) {
     assert!(rt; CALL.same(&CALL));
+    assert!(rt; Side::Put.same(Side::Put));
+    assert!(rt; !Side::Call.same(Side::Put));
     assert!(rt;
         !CALL.same(&Listed {
             side: Side::Put,

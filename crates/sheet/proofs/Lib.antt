@@ -1,4 +1,5 @@
 pub mod Marks
+pub mod Rows
 pub mod Shapes
 pub mod ReadSteps
 pub mod Lengths

@@ -8,10 +8,9 @@ use Rattle.sheet.specs.declared.fault.BookCause.{BookCause}
 use Rattle.sheet.specs.declared.fault.BookCause.TheVariants.{Product, DoesNotFit, Contracts, Places, NamedTwice, TooLong}
 use Rattle.sheet.specs.declared.fault.Fault.{Fault}
 use Rattle.sheet.specs.declared.fault.Fault.TheVariants as fault
-use Rattle.sheet.specs.MarketNumbers.{market_place}
 
 abbrev pub line_cause_number : LineCause → ℕ
-line_cause_number (MarketNumber which) = 1
+line_cause_number (MarketNumber n) = 1
 line_cause_number (Contract r) = contract_refusal_number r
 line_cause_number Quantity = 6
 
@@ -45,7 +44,7 @@ fault_layer (fault.Book line cause) = layer.TheVariants.Book
 
 -- What is returned beside the number: the line, and then the field of a malformed line or the place of a market number.
 abbrev pub cause_values : LineCause → List ℕ
-cause_values (MarketNumber which) = market_place which ∷ []
+cause_values (MarketNumber n) = n ∷ []
 cause_values (Contract r) = []
 cause_values Quantity = []
 

@@ -1,5 +1,5 @@
 -- Numbers and quantities as fields: which fields are numbers, and that reading and writing are inverse.
-use Rattle.std.specs.Prelude.{◌≡◌, ℕ, zero, suc, ◌^◌, ◌<◌, ◌≤◌, true, cond, ◌&&◌, List, [], ◌∷◌, length, ℤ, pos, negsuc, Some, None, decimal, Option, ◌==◌, nat_le, slice_index, unsigned_abs, refl}
+use Rattle.std.specs.Prelude.{◌≡◌, ℕ, zero, suc, ◌^◌, ◌<◌, ◌≤◌, Bool, true, false, cond, ◌&&◌, List, [], ◌∷◌, length, ℤ, pos, negsuc, Some, None, decimal, Option, ◌==◌, ◌≢◌, nat_le, slice_index, unsigned_abs, refl}
 use Rattle.std.proofs.Common.{drop, sym, ap, ap₂, ◌∙◌, subst, ⊎_elim, arith, rules}
 use Rattle.std.proofs.Math.Nat.{pow-le-pow_right}
 use Rattle.std.specs.Fmt.{signed_decimal}
@@ -12,6 +12,14 @@ use Rattle.sheet.specs.Decimals.{read_on, well_led, is_number, number_of, negate
 
 pub own : IsNumeralModel (λ ds. all_ascii_digits ds ≡ true) (read_on 0)
 own = numerals_by_fold _ tells_all_ascii_digits read_on (search rules)
+
+-- A field is a number, or none.
+pub none_from : {X : Type 0} (b : Bool) (x : X) → (b ≢ true) → None ≡ cond b (Some x) None
+none_from true x h = absurd (h refl)
+none_from false x h = refl
+
+pub some_from : {X : Type 0} (b : Bool) (x : X) → b ≡ true → Some x ≡ cond b (Some x) None
+some_from b x h = sym (ap (λ t. cond t (Some x) None) h)
 
 pub well_led_facts : (bs : List ℕ) → well_led bs ≡ true → (0 < length bs) × (slice_index bs 0 ≡ 48 → length bs ≡ 1)
 well_led_facts [] h = cc

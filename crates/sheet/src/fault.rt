@@ -2,7 +2,6 @@
 ghost use Rattle.std.specs.Prelude.{◌≡◌};
 ghost use Rattle.sheet.specs.Faults.{fault_number, fault_line, fault_layer, fault_field_of};
 
-use crate::market_number::MarketNumber;
 use kinds::ContractRefusal;
 
 #[derive(Clone, Copy, PartialEq, Debug)]
@@ -15,8 +14,8 @@ pub enum Layer {
 // What can be wrong with the numbers of a well-formed line by themselves.
 #[derive(Clone, Copy, PartialEq, Debug)]
 pub enum LineCause {
-    // the market number that is outside its range
-    MarketNumber(MarketNumber),
+    // which of the market's five numbers is outside its range, from 1
+    MarketNumber(u8),
     Contract(ContractRefusal),
     Quantity,
 }

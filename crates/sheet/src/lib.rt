@@ -30,4 +30,4 @@ pub use number::{decimals_are_inverse, long_number, quantity, short_number};
 pub use reader::Reader;
 pub use stored::Stored;
 pub use too_short::TooShort;
-pub use write::{head_line, number_line, position_line};
+pub use write::{head_line, number_line, position_line, write_head, write_number, write_position};

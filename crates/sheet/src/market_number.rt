@@ -12,10 +12,10 @@ pub enum MarketNumber {
 }
 
 // The number's place among the five, from 1.
-impl From<MarketNumber> for usize {
+impl From<MarketNumber> for u8 {
     ghost from_gives = { λ which place. place ≡ market_place which };
 
-    fn from(which: MarketNumber) -> usize {
+    fn from(which: MarketNumber) -> u8 {
         match which {
             MarketNumber::Ceiling => 1,
             MarketNumber::Reference => 2,
@@ -23,5 +23,13 @@ impl From<MarketNumber> for usize {
             MarketNumber::Size => 4,
             MarketNumber::Rate => 5,
         }
+    }
+}
+
+impl From<MarketNumber> for usize {
+    ghost from_gives = { λ which place. place ≡ market_place which };
+
+    fn from(which: MarketNumber) -> usize {
+        usize::from(u8::from(which))
     }
 }

@@ -1,12 +1,13 @@
-// The lines of a sheet, to be written.
+// Writing the lines of a sheet.
 ghost use Rattle.std.specs.Prelude.{◌≡◌};
 ghost use Rattle.sheet.specs.LineTexts.{line_text};
-ghost use Rattle.sheet.specs.LineBytes.{number_bytes, head_bytes};
+ghost use Rattle.sheet.specs.LineBytes.{number_bytes, head_bytes, WrittenTo};
 ghost use Rattle.sheet.specs.StoredKinds.{position_bytes};
 
 use crate::form::Word;
 use crate::line_buffer::LineBuffer;
 use crate::stored::Stored;
+use crate::too_short::TooShort;
 
 #[tactic(auto, using(crate::proofs::Lengths::number_length))]
 pub fn number_line(n: u32) -> LineBuffer
@@ -38,4 +39,28 @@ pub fn position_line<K: Stored>(contract: &K, quantity: i32) -> LineBuffer
     line.push_quantity(quantity);
     line.push(b'\n');
     line
+}
+
+// Each of these writes one line to the front of a buffer and replies its length; too short a buffer is refused with the bytes needed.
+
+pub fn write_number(out: &mut [u8], n: u32) -> Result<usize, TooShort>
+    ensures { WrittenTo (number_bytes n) out.old out.new result }
+{
+    number_line(n).write_to(out)
+}
+
+pub fn write_head(out: &mut [u8], word: Word, n: u32) -> Result<usize, TooShort>
+    ensures { WrittenTo (head_bytes word n) out.old out.new result }
+{
+    head_line(word, n).write_to(out)
+}
+
+pub fn write_position<K: Stored>(
+    out: &mut [u8],
+    contract: &K,
+    quantity: i32,
+) -> Result<usize, TooShort>
+    ensures { WrittenTo (position_bytes (K.Stored.stored.written contract.now) quantity) out.old out.new result }
+{
+    position_line(contract, quantity).write_to(out)
 }

@@ -3,7 +3,7 @@ use crate::field_at_fault;
 use kinds::{ContractRefusal, Flexible, Listed, Side};
 use sheet::{
     Fault, Line, Reader, Stored, TooShort, Word, head_line, long_number, number_line,
-    position_line, quantity, short_number,
+    position_line, quantity, short_number, write_head, write_number, write_position,
 };
 use std::process::Abort;
 use std::test::Fail;
@@ -241,6 +241,25 @@ fn lines_written(rt: HostRuntime) {
     assert!(rt; &out[0..13] == b"P 5 - 10000\n\n".as_slice());
     assert_eq!(rt; head_line(Word::Positions, 128).write_to(&mut out), Ok(14));
     assert!(rt; &out[0..15] == b"positions 128\nx".as_slice());
+}
+
+#[test]
+fn lines_written_at_once(rt: HostRuntime) {
+    let mut out = [b'x'; 24];
+    let call = Listed {
+        side: Side::Call,
+        strike: 380_000,
+    };
+    assert_eq!(rt; write_position(&mut out, &call, -30), Ok(13));
+    assert!(rt; &out[0..14] == b"C 380000 -30\nx".as_slice());
+    assert_eq!(rt; write_head(&mut out, Word::Positions, 128), Ok(14));
+    assert!(rt; &out[0..15] == b"positions 128\nx".as_slice());
+    assert_eq!(rt;
+        write_number(&mut out[0..8], 20_000_000),
+        Err(TooShort { needed: 9 })
+    );
+    assert!(rt; &out[0..15] == b"positions 128\nx".as_slice());
+    assert_eq!(rt; write_number(&mut out[0..8], 7_654_321), Ok(8));
 }
 
 #[test]

@@ -1,5 +1,6 @@
-use Rattle.std.proofs.Common.{◌≡◌, ℕ, suc, ◌+◌, ◌-◌, ◌*◌, ◌<◌, ◌≤◌, max, List, length, get_or, take, pos, ◌*ℤ◌, neg_ℤ, nat_abs, sym, ap, ◌∙◌, ap₂, le_refl, mul-le-mul_right, add-mul, arith, take_all, w64}
+use Rattle.std.proofs.Common.{◌≡◌, ℕ, suc, ◌+◌, ◌-◌, ◌*◌, ◌<◌, ◌≤◌, List, length, get_or, take, pos, ◌*ℤ◌, neg_ℤ, nat_abs, sym, ap, ◌∙◌, ap₂, le_refl, mul-le-mul_right, add-mul, arith, take_all, w64}
 use borrow.Author.Differences.{ints}
+use Rattle.std.specs.Int.{int_max}
 use Rattle.std.proofs.lemmas.Int.{to_z-of_z}
 use Rattle.book.specs.declared.position.Position.{Position}
 use Rattle.book.specs.Losses.{gross}
@@ -7,6 +8,7 @@ use Rattle.book.specs.Prices.{centavos}
 use Rattle.book.specs.Markets.{value_unit}
 use Rattle.book.specs.Scenarios.{row_value, scenario_loss, scenario_losses, greatest}
 use Rattle.book.proofs.MarketFacts.{right, stressed_most}
+use Rattle.book.proofs.Rounding.{centavos_max}
 use Rattle.book.proofs.ScenarioRows.{row_most}
 use Rattle.book.proofs.held.Held.stressed.Goals as goal
 
@@ -44,10 +46,12 @@ loop-preserved g c =
     let value = to_z-of_z w64 c.row_value.result (omega (arith, ints)) ∙ c.row_value.ensures in
     let low = row_size ps rest row (100 * m.ceiling) unit c.args.self.now.few c.loop.invariant.1 c.split_at.ensures.front (stressed_most m (right m c.args.self.now.market.right)) in
     let loss = to_z-of_z w64 c.exact_loss.result (omega (arith, ints)) ∙ c.exact_loss.ensures (omega (arith, ap₂ (λ z k. nat_abs z * k) value u, low)) ∙ ap₂ (λ z k. neg_ℤ z *ℤ pos k) value u ∙ ap (scenario_loss unit ps) c.split_at.ensures.front in
-    let most = c.max-most.ensures ∙ ap (max c.loop.most) (c.centavos.ensures ∙ ap centavos loss) in (
+    let top = c.max-most.type_inv in
+    let most = ap centavos (to_z-of_z w64 c.max-most.result (omega (arith, ints)) ∙ c.max-most.ensures.value ∙ ap₂ int_max c.loop.most-is loss) ∙ centavos_max c.loop.most (scenario_loss unit ps (take n rest)) in (
       omega (arith, c.split_at.ensures.back_len, c.loop.invariant.0, left s i n c.loop-test.true),
       λ k. omega (arith, c.split_at.ensures.by_index.2 k 0, c.loop.invariant.1 (n + k)),
       ap₂ (λ m xs. greatest m (scenario_losses unit ps (s - (i + 1)) xs)) most c.split_at.ensures.back
-          ∙ sym (ap (λ k. greatest c.loop.most (scenario_losses unit ps k rest)) next)
+          ∙ sym (ap (λ k. greatest (centavos c.loop.most) (scenario_losses unit ps k rest)) next)
+          ∙ ap (λ z. greatest (centavos z) (scenario_losses unit ps (s - i) rest)) (sym c.loop.most-is)
           ∙ c.loop.invariant.2,
     )
