@@ -88,6 +88,19 @@ steps {ps} {qs} {fs} {gs} {a} {b} {c} x y =
       next_is = y.next_is ∙ x.next_is;
     }
 
+-- What was read or refused in one form was read or refused in the same form by another name.
+pub read_as : {p : Form} (q : Form) {fs : List Field} {a b : LineReader} → p ≡ q → Read (p ∷ []) fs a b → Read (q ∷ []) fs a b
+read_as q {fs} {a} {b} e r = subst (λ f. Read (f ∷ []) fs a b) e r
+
+pub refused_as : {p : Form} (q : Form) {a b : LineReader} {x : Fault} → p ≡ q → Refused p a b x → Refused q a b x
+refused_as q {a} {b} {x} e r = subst (λ f. Refused f a b x) e r
+
+pub forms_as : {ps : List Form} (qs : List Form) {fs : List Field} {a b : LineReader} → ps ≡ qs → Read ps fs a b → Read qs fs a b
+forms_as qs {fs} {a} {b} e r = subst (λ fs'. Read fs' fs a b) e r
+
+pub optional_refused : (p q : Option Form) (a b : LineReader) (x : Fault) → p ≡ q → OptionalRead p a b (Err x) → OptionalRead q a b (Err x)
+optional_refused p q a b x e r = subst (λ o. OptionalRead o a b (Err x)) e r
+
 end_ok : (rest : Option Text) (next : Option ℕ) (e : Fault) (n : ℕ) → end_of rest next e ≡ Ok n → (rest ≡ None) × (next ≡ Some n)
 end_ok None (Some m) e n h = (refl, cc)
 end_ok None None e n h = cc
